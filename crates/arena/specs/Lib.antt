@@ -1,0 +1,5 @@
+pub mod Refusals
+pub mod Sets
+pub mod Arena
+pub mod Play
+pub mod Bytes

@@ -1,0 +1,67 @@
+ghost use Prim.Native.Nat.{ℕ};
+ghost use Rattle.arena.specs.Arena.{
+    Lawful, Meaning, count-answer, marked-answer, move-answer, owner-answer
+};
+ghost use Rattle.arena.specs.Bytes.{byte, number};
+ghost use Rattle.arena.specs.Play.{Strategies-agree};
+ghost use mathlib.Core.Path.{_≡_};
+
+/// An arena: positions that belong to the controller (0) or the traffic (1), moves between them, and goals that positions
+/// are marked for. All count from 0, and a move is named by the position that it leads to.
+///
+/// What an arena is stands in its ghost meaning, from which all six answers come; that the meaning has the laws of an
+/// arena is a ghost member too, a proof that each implementation gives. No question alters the arena.
+pub trait Arena {
+    ghost meaning: { Self → Meaning };
+
+    ghost lawful: { (a : Self) → Lawful (meaning a) };
+
+    /// The number of positions.
+    fn positions(&self) -> u16
+        ensures { λ r. ⌜ r ≡ meaning (now (self .entry)) .size ⌝ };
+
+    /// The number of goals.
+    fn goals(&self) -> u16
+        ensures { λ r. ⌜ r ≡ meaning (now (self .entry)) .goals ⌝ };
+
+    /// The owner of position `p`; absent where there is no such position.
+    fn owner(&self, p: u16) -> Option<u16>
+        ensures { λ r. ⌜ r ≡ owner-answer (meaning (now (self .entry))) p ⌝ };
+
+    /// Whether position `p` is marked for goal `g`; absent where there is no such position or goal.
+    fn marked(&self, p: u16, g: u16) -> Option<bool>
+        ensures { λ r. ⌜ r ≡ marked-answer (meaning (now (self .entry))) p g ⌝ };
+
+    /// How many moves position `p` has; absent where there is no such position.
+    fn move_count(&self, p: u16) -> Option<u16>
+        ensures { λ r. ⌜ r ≡ count-answer (meaning (now (self .entry))) p ⌝ };
+
+    /// The `j`-th move of position `p`, in rising order; absent where there is no such position or move.
+    fn nth_move(&self, p: u16, j: u16) -> Option<u16>
+        ensures { λ r. ⌜ r ≡ move-answer (meaning (now (self .entry))) p j ⌝ };
+}
+
+/// The byte at place `i`; past the end it is 0.
+pub fn byte_at(bytes: &[u8], i: usize) -> u8
+    ensures { λ r. ⌜ r ≡ byte (now (bytes .entry)) i ⌝ }
+{
+    if i < bytes.len() { bytes[i] } else { 0 }
+}
+
+/// The two-byte number at place `i`, the high byte first.
+pub fn number_at(bytes: &[u8], i: usize) -> u16
+    ensures { λ r. ⌜ r ≡ number (now (bytes .entry)) i ⌝ }
+{
+    if i >= bytes.len() {
+        return 0;
+    }
+    256 * byte_at(bytes, i) as u16 + byte_at(bytes, i + 1) as u16
+}
+
+/// The law that ties the two usual readings of a winning strategy: to win every play that obeys it is to win against
+/// every strategy of the opponent. The contract is the law; the answer says nothing.
+pub fn strategies_agree() -> u8
+    ensures { λ _. ⌜ Strategies-agree ⌝ }
+{
+    0
+}
