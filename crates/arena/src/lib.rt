@@ -1,6 +1,11 @@
 ghost use Prim.Native.Nat.{ℕ};
 ghost use Rattle.arena.specs.Arena.{
-    Lawful, Meaning, count-answer, marked-answer, move-answer, owner-answer
+  Lawful,
+  Meaning,
+  count-answer,
+  marked-answer,
+  move-answer,
+  owner-answer,
 };
 ghost use Rattle.arena.specs.Bytes.{byte, number};
 ghost use Rattle.arena.specs.Play.{Strategies-agree};
