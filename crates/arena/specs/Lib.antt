@@ -3,3 +3,4 @@ pub mod Sets
 pub mod Arena
 pub mod Play
 pub mod Bytes
+pub mod Certificate

@@ -7,9 +7,13 @@ ghost use Rattle.arena.specs.Arena.{
   move-answer,
   owner-answer,
 };
-ghost use Rattle.arena.specs.Bytes.{byte, number};
 ghost use Rattle.arena.specs.Play.{Strategies-agree};
 ghost use mathlib.Core.Path.{_≡_};
+
+mod bytes;
+
+pub use bytes::byte_at;
+pub use bytes::number_at;
 
 /// An arena: positions that belong to the controller (0) or the traffic (1), moves between them, and goals that positions
 /// are marked for. All count from 0, and a move is named by the position that it leads to.
@@ -44,23 +48,6 @@ pub trait Arena {
     /// The `j`-th move of position `p`, in rising order; absent where there is no such position or move.
     fn nth_move(&self, p: u16, j: u16) -> Option<u16>
         ensures { λ r. ⌜ r ≡ move-answer (meaning (now (self .entry))) p j ⌝ };
-}
-
-/// The byte at place `i`; past the end it is 0.
-pub fn byte_at(bytes: &[u8], i: usize) -> u8
-    ensures { λ r. ⌜ r ≡ byte (now (bytes .entry)) i ⌝ }
-{
-    if i < bytes.len() { bytes[i] } else { 0 }
-}
-
-/// The two-byte number at place `i`, the high byte first.
-pub fn number_at(bytes: &[u8], i: usize) -> u16
-    ensures { λ r. ⌜ r ≡ number (now (bytes .entry)) i ⌝ }
-{
-    if i >= bytes.len() {
-        return 0;
-    }
-    256 * byte_at(bytes, i) as u16 + byte_at(bytes, i + 1) as u16
 }
 
 /// The law that ties the two usual readings of a winning strategy: to win every play that obeys it is to win against

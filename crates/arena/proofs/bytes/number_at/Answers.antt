@@ -1,7 +1,7 @@
 use native.Mathlib.Omega.{arith}
 use Prim.Native.Nat.{_+_}
 use Rattle.std.proofs.shelf.Lists.{getD-past}
-use Rattle.arena.proofs.number_at.Needs as need
+use Rattle.arena.proofs.bytes.number_at.Needs as need
 
 pub returns-then-i-bytes : need.returns-then-i-bytes
 returns-then-i-bytes c =
