@@ -4,3 +4,4 @@ pub mod Refusals
 pub mod Faults
 pub mod Laws
 pub mod Parts
+pub mod RowModel

@@ -49,6 +49,10 @@ module _ (bs : List ℕ) where
   unfoldable pub record-wrong : ℕ → ℕ → ℕ → Option ℕ
   record-wrong n k o = first-wrong bs (record-fields bs n k o)
 
+  pub record-is : (n k o : ℕ) → record-wrong n k o ≡ first-wrong bs (record-fields bs n k o)
+  unfolding record-wrong
+  record-is n k o = refl
+
   pub record-parts : (n k o : ℕ) → record-wrong n k o ≡ or-else (first-wrong bs (front-fields bs k o)) (moves-wrong n o 0)
   unfolding moves-wrong record-wrong
   record-parts n k o = append-wrong (front-fields bs k o) (map (move-field bs n o) (upto 16))

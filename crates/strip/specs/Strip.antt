@@ -105,11 +105,7 @@ module _ (bs : List ℕ) where
   -- The row that one record stores, absent where the bytes are no record of a row. Taken alone, a record tells neither
   -- n nor k: any two-byte number may be a move, and any of the eight goals may be marked.
   abbrev pub row-in : Option Row
-  row-in =
-      elim (first-wrong (record-fields 65536 8 0)) [
-        | None ↦ within (eqb (length bs) row-bytes) (row-from 0)
-        | Some place ↦ None
-      ]
+  row-in = within (eqb (length bs) row-bytes && not (holds (first-wrong (record-fields 65536 8 0)))) (row-from 0)
 
   -- the number of positions in the head
   abbrev pub size : ℕ

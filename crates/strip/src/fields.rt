@@ -63,7 +63,12 @@ fn moves(bytes: &[u8], n: usize, offset: usize) -> Result<(), StripFault>
     ensures { λ r. ⌜ place-of r ≡ moves-wrong (now (bytes .entry)) n offset 0 ⌝ }
 {
     for j in 0..16 {
-        field(bytes, offset + (6 + 2 * j), 2, is_move_right(bytes, n, offset, j))?;
+        field(
+            bytes,
+            offset + (6 + 2 * j),
+            2,
+            is_move_right(bytes, n, offset, j),
+        )?;
     }
     Ok(())
 }

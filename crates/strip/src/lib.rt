@@ -1,7 +1,9 @@
 mod faults;
 mod fields;
+mod marks;
 mod opened;
 mod reader;
+mod row;
 
 pub use faults::OpenFault;
 pub use faults::OpenFromStrip;
@@ -11,3 +13,5 @@ pub use opened::OpenedStrip;
 pub use opened::StripArena;
 pub use opened::open;
 pub use reader::next_record;
+pub use row::Owner;
+pub use row::Row;

@@ -5,16 +5,16 @@ ghost use Rattle.std.specs.declared.option.Option.the-variants.{None, Some};
 ghost use Rattle.arena.specs.Sets.{least};
 ghost use Rattle.strip.specs.Laws.{lawful-strip};
 ghost use Rattle.strip.specs.Refusals.{open-outcome};
-ghost use Rattle.strip.specs.Rows.{mark-in};
-ghost use Rattle.strip.specs.Strip.{bare, drawn, move-at, moves-at, open-answer, openable, row-at, size};
+ghost use Rattle.strip.specs.Strip.{bare, drawn, open-answer, openable, row-at, row-read};
 ghost use denote.Ref.{now as at};
-ghost use lib.ListN.{length};
+ghost use lib.ListN.{getD, length};
 ghost use mathlib.Core.Bool.{true};
 ghost use mathlib.Core.List.{[]};
 ghost use mathlib.Core.Path.{_≡_};
 use crate::faults::OpenFault;
 use crate::faults::OpenFromStrip;
 use crate::fields::inspect;
+use crate::marks::has_mark;
 use arena::Arena;
 use arena::byte_at;
 use arena::number_at;
@@ -45,16 +45,17 @@ fn record_at(p: u16) -> usize
 
 /// How many moves the record of position `p` has.
 fn count_at(bytes: &[u8], p: u16) -> u16
-    ensures { λ r. ⌜ r ≡ moves-at (now (bytes .entry)) (row-at p) ⌝ }
+    ensures { λ r. ⌜ r ≡ length (row-read (now (bytes .entry)) p .moves) ⌝ }
 {
     number_at(bytes, record_at(p) + 4)
 }
 
-/// Whether goal `g` is among the marks.
-fn has_mark(marks: u8, g: u16) -> bool
-    ensures { λ r. ⌜ r ≡ mark-in marks g ⌝ }
+/// The `j`-th move of the record of position `p`, which has more moves than that.
+fn move_at(bytes: &[u8], p: u16, j: u16) -> u16
+    requires { ⌜ j < length (row-read (now bytes) p .moves) ⌝ }
+    ensures { λ r. ⌜ r ≡ getD (row-read (now (bytes .entry)) p .moves) j 0 ⌝ }
 {
-    g < 8 && (marks >> g) % 2 == 1
+    number_at(bytes, record_at(p) + (6 + 2 * j as usize))
 }
 
 pub impl Arena for OpenedStrip<'_> as StripArena {
@@ -101,7 +102,7 @@ pub impl Arena for OpenedStrip<'_> as StripArena {
         if j >= count_at(self.bytes, p) {
             return None;
         }
-        Some(number_at(self.bytes, record_at(p) + 6 + 2 * j as usize))
+        Some(move_at(self.bytes, p, j))
     }
 }
 

@@ -5,7 +5,7 @@ use native.Mathlib.Omega.{arith}
 use lib.Dec.{eqb}
 use lib.Pow.{pow-mono}
 use Rattle.std.proofs.shelf.Tests.{le-ltb}
-use Rattle.strip.proofs.opened.has_mark.Needs as need
+use Rattle.strip.proofs.marks.has_mark.Needs as need
 
 pub returns-else-g-lt8 : need.returns-else-g-lt8
 returns-else-g-lt8 c =
