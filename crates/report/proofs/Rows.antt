@@ -1,6 +1,5 @@
 -- Lists as the loops write them: one more number at the end, and a sign that nothing has been written yet.
 use mathlib.Core.Path.{_≡_, refl, sym, ap, _∙_}
-use mathlib.Core.Logic.{inl, inr}
 use mathlib.Core.Bool.{Bool, true, false, cond}
 use mathlib.Core.List.{List, [], _∷_, _++_, append-assoc, append-nil}
 use Prim.Native.Nat.{ℕ, zero, suc, _+_, _<_}
@@ -32,11 +31,11 @@ row (x ∷ xs) = listed (x ∷ xs)
 abbrev pub next : List ℕ → ℕ → List ℕ
 next xs y = cond (empty xs) (decimal y) (comma y)
 
-pub concat-append : {A : Type 0} (f : ℕ → List A) (xs ys : List ℕ) → concat f (xs ++ ys) ≡ concat f xs ++ concat f ys
+concat-append : {A : Type 0} (f : ℕ → List A) (xs ys : List ℕ) → concat f (xs ++ ys) ≡ concat f xs ++ concat f ys
 concat-append f [] ys = refl
 concat-append f (x ∷ xs) ys = ap (λ zs. f x ++ zs) (concat-append f xs ys) ∙ sym (append-assoc (f x) (concat f xs) (concat f ys))
 
-pub concat-push : {A : Type 0} (f : ℕ → List A) (xs : List ℕ) (y : ℕ) → concat f (xs ++ (y ∷ [])) ≡ concat f xs ++ f y
+concat-push : {A : Type 0} (f : ℕ → List A) (xs : List ℕ) (y : ℕ) → concat f (xs ++ (y ∷ [])) ≡ concat f xs ++ f y
 concat-push f xs y = concat-append f xs (y ∷ []) ∙ ap (λ zs. concat f xs ++ zs) (append-nil (f y))
 
 keep-append : (f : ℕ → Bool) (xs ys : List ℕ) → keep f (xs ++ ys) ≡ keep f xs ++ keep f ys
@@ -54,7 +53,7 @@ from-push i (suc c) =
     ap (λ xs. i ∷ xs) (from-push (suc i) c) ∙ ap (λ x. i ∷ (from (suc i) c ++ (x ∷ []))) e
 
 -- the numbers below n + 1
-pub upto-more : (n : ℕ) → upto (n + 1) ≡ upto n ++ (n ∷ [])
+upto-more : (n : ℕ) → upto (n + 1) ≡ upto n ++ (n ∷ [])
 upto-more n = ap upto (add-one n) ∙ from-push 0 n ∙ ap (λ x. upto n ++ (x ∷ [])) (zero-add n)
 
 pub concat-more : {A : Type 0} (f : ℕ → List A) (n : ℕ) → concat f (upto (n + 1)) ≡ concat f (upto n) ++ f n
@@ -87,14 +86,13 @@ row-more xs j h =
     first [] (suc j) h = absurd (omega arith)
     first (x ∷ xs) (suc j) h = sym (ne-eqb (suc j) 0 (λ e. omega arith))
 
--- at the end `-` is written where nothing has been
-pub row-none : (xs : List ℕ) → empty xs ≡ true → row xs ++ codes "-" ≡ listed xs
-row-none [] e = refl
-row-none (x ∷ xs) e = let z : _≡_ {A = ℕ} 0 1 = cc in absurd (omega arith)
-
 pub row-some : (xs : List ℕ) → 0 < length xs → row xs ≡ listed xs
 row-some [] h = absurd (omega arith)
 row-some (x ∷ xs) h = refl
+
+-- a line, as its parts are added to a text
+pub line-joined : (text number owner goals moves : List ℕ) → text ++ (number ++ (codes " " ++ (owner ++ codes " "))) ++ goals ++ codes " " ++ moves ++ codes "\n" ≡ text ++ (number ++ (codes " " ++ owner) ++ (codes " " ++ goals) ++ (codes " " ++ moves) ++ codes "\n")
+line-joined text number owner goals moves = simp append-assoc
 
 -- the value of an answer that is there
 pub told : {A : Type 0} (b : Bool) (x y : A) → Some y ≡ within b x → y ≡ x

@@ -1,6 +1,6 @@
-ghost use Prim.Native.Nat.{ℕ, _<_};
+ghost use Prim.Native.Nat.{_<_};
 ghost use Rattle.arena.specs.Sets.{keep, upto};
-ghost use Rattle.report.specs.Text.{comma, fields, letter, line-text, listed, plant-text, refusal-text};
+ghost use Rattle.report.specs.Text.{comma, letter, line-text, listed, plant-text, refusal-text};
 ghost use Rattle.std.specs.Of.String.{string-bytes};
 ghost use Rattle.std.specs.Results.{isOk};
 ghost use Rattle.std.specs.Vec.{made};
@@ -42,13 +42,20 @@ fn push_line<A: Arena>(out: &mut String, arena: &A, p: u16) -> Result<(), AllocE
     let Some(owner) = arena.owner(p) else {
         unreachable()
     };
-    let side = letter_of(owner);
-    added(write!(out, "{p} {side} "))?;
+    push_owner(out, p, owner)?;
     push_goals(out, arena, p)?;
     out.push_str(" ")?;
     push_moves(out, arena, p)?;
     out.push_str("\n")?;
     Ok(())
+}
+
+// Adds the number of position `p` and its owner's letter.
+fn push_owner(out: &mut String, p: u16, owner: u16) -> Result<(), AllocError>
+    ensures { λ r. ⌜ made r (λ _. string-bytes (now (out .exit)) ≡ string-bytes (now (out .entry)) ++ (decimal p ++ (codes " " ++ (letter owner ++ codes " ")))) ⌝ }
+{
+    let side = letter_of(owner);
+    added(write!(out, "{p} {side} "))
 }
 
 // The owner's letter.

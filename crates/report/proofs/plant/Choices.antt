@@ -1,9 +1,8 @@
 use mathlib.Core.Path.{_≡_}
-use mathlib.Core.List.{[], _∷_, _++_}
-use lib.Chars.{codes}
+use mathlib.Core.List.{_++_}
 use Rattle.std.specs.Of.String.{string-bytes}
 use Rattle.arena.specs.Sets.{upto, concat}
-use Rattle.report.specs.Text.{fields, line-text}
+use Rattle.report.specs.Text.{line-text}
 use Rattle.report.proofs.plant.Given as given
 
 abbrev pub Inv-loop-p : given.InvT-loop-p

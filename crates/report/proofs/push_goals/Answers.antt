@@ -1,7 +1,6 @@
 use mathlib.Core.Path.{_≡_}
 use mathlib.Core.Bool.{_&&_, true, false}
 use mathlib.Core.List.{append-assoc}
-use Prim.Native.Nat.{_+_}
 use lib.Dec.{ltb}
 use Rattle.std.specs.Of.String.{string-bytes}
 use Rattle.arena.specs.Sets.{upto, keep}
