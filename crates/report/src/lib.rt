@@ -114,7 +114,7 @@ fn push_next(out: &mut String, first: bool, n: u16) -> Result<(), AllocError>
     }
 }
 
-// Text is added unless memory is wanting.
+// Writing to a string fails only for want of memory.
 fn added(result: fmt::Result) -> Result<(), AllocError>
     ensures { λ r. ⌜ isOk r ≡ isOk result ⌝ }
 {
