@@ -1,7 +1,8 @@
 -- What the program answers to the bytes that it reads: the plant that they store, or the refusal. Read after the texts.
-use mathlib.Core.List.{List}
+use mathlib.Core.List.{List, _++_}
 use mathlib.Core.Path.{_≡_}
-use Prim.Native.Nat.{ℕ}
+use Prim.Native.Nat.{ℕ, _≤_}
+use lib.ListN.{length}
 use Rattle.std.specs.Of.String.{string-bytes}
 use Rattle.std.specs.declared.result.Result.{Result}
 use Rattle.std.specs.declared.result.Result.the-variants.{Ok, Err}
@@ -27,3 +28,11 @@ program-text bs = answer-text (open-answer bs)
 abbrev pub Told : PlanFault → Outcome Meaning → Type 0
 Told (Open fault) answer = answer ≡ open-refusal fault
 Told Memory answer = Unit {0}
+
+-- how many bytes decide: as many as the longest strip has, and one more
+abbrev pub deciding : ℕ
+deciding = 19467
+
+-- bytes after so many change nothing
+abbrev pub Rest-unread : List ℕ → Type 0
+Rest-unread bs = deciding ≤ length bs → (more : List ℕ) → program-text (bs ++ more) ≡ program-text bs

@@ -1,5 +1,5 @@
 ghost use Prim.Native.Nat.{ℕ};
-ghost use Rattle.report.specs.Answer.{Told, answer-text, program-text};
+ghost use Rattle.report.specs.Answer.{Rest-unread, Told, answer-text, program-text};
 ghost use Rattle.std.specs.Of.String.{string-bytes};
 ghost use Rattle.std.specs.Results.{Cases};
 ghost use Rattle.std.specs.Vec.{made};
@@ -37,8 +37,8 @@ fn refused(heap: Global, fault: OpenFault) -> Result<String, AllocError>
     }
 }
 
-/// What the program prints for the bytes that it has read: the plant, or the refusal.
-pub fn answer(heap: Global, bytes: &[u8]) -> Result<String, AllocError>
+/// The plant, or the refusal.
+fn told(heap: Global, bytes: &[u8]) -> Result<String, AllocError>
     ensures { λ r. ⌜ made r (λ s. string-bytes s ≡ program-text (now (bytes .entry))) ⌝ }
 {
     match describe(heap, bytes) {
@@ -46,4 +46,13 @@ pub fn answer(heap: Global, bytes: &[u8]) -> Result<String, AllocError>
         Err(PlanFault::Open(fault)) => refused(heap, fault),
         Err(PlanFault::Memory) => Err(AllocError),
     }
+}
+
+/// What the program prints for the bytes that it has read: the plant, or the refusal. Of an input that is longer than the
+/// longest strip, its front up to one byte more decides.
+pub fn answer(heap: Global, bytes: &[u8]) -> Result<String, AllocError>
+    ensures text { λ r. ⌜ made r (λ s. string-bytes s ≡ program-text (now (bytes .entry))) ⌝ }
+    ensures rest { λ r. ⌜ Rest-unread (now (bytes .entry)) ⌝ }
+{
+    told(heap, bytes)
 }
