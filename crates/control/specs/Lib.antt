@@ -1,0 +1,4 @@
+pub mod Accept
+pub mod Run
+pub mod Promise
+pub mod Answers

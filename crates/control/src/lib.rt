@@ -1,0 +1,6 @@
+mod clauses;
+mod questions;
+mod verdict;
+
+pub use verdict::CheckFault;
+pub use verdict::check;
