@@ -136,7 +136,7 @@ module _ (m : Meaning) (law : Lawful m) (bs : List ℕ) (acc : Accepted m bs) wh
     stands-step = record { ends = (suc last, long, ap (λ x. x .0) new-at, ap₂ (next-aim m) end-at end-aim); steered = grows }
 
   -- it is the side's turn: the place is a position of the side with a goal for its aim
-  turn-says : (side p aim : ℕ) → turn m side p aim ≡ true → (p < m .size) × (aim < m .goals) × (m .owner p ≡ side)
+  turn-says : (side p aim : ℕ) → turn m side (on p aim) ≡ true → (p < m .size) × (aim < m .goals) × (m .owner p ≡ side)
   turn-says side p aim e =
       let a = and-parts (ltb p (m .size) && ltb aim (m .goals)) (eqb (m .owner p) side) e in
       let b = and-parts (ltb p (m .size)) (ltb aim (m .goals)) (a .0) in
@@ -146,7 +146,7 @@ module _ (m : Meaning) (law : Lawful m) (bs : List ℕ) (acc : Accepted m bs) wh
       → Stands m bs (on (r .0) (r .1)) (run ++ ((r .0, bs′) ∷ []))
   stands-go p aim run bs′ r e h =
       let q : ℕ = goal-move-of m bs′ aim p in
-      let a = require-accepted (turn m 0 p aim) 17 (require (fit m bs′) 3 (require (elem q (m .moves p)) 18 (accepted (q, next-aim m p aim)))) r e in
+      let a = require-accepted (turn m 0 (on p aim)) 17 (require (fit m bs′) 3 (require (elem q (m .moves p)) 18 (accepted (q, next-aim m p aim)))) r e in
       let b = require-accepted (fit m bs′) 3 (require (elem q (m .moves p)) 18 (accepted (q, next-aim m p aim))) r (a .1) in
       let c = require-accepted (elem q (m .moves p)) 18 (accepted (q, next-aim m p aim)) r (b .1) in
       let t = turn-says 0 p aim (a .0) in
@@ -160,7 +160,7 @@ module _ (m : Meaning) (law : Lawful m) (bs : List ℕ) (acc : Accepted m bs) wh
   stands-moved : (p aim : ℕ) (run : Run) (bs′ : List ℕ) (q : ℕ) (r : ℕ × ℕ) → answer m (on p aim) (moved bs′ q) ≡ accepted r → Stands m bs (on p aim) run
       → Stands m bs (on (r .0) (r .1)) (run ++ ((r .0, bs′) ∷ []))
   stands-moved p aim run bs′ q r e h =
-      let a = require-accepted (turn m 1 p aim) 17 (require (fit m bs′) 3 (require (elem q (m .moves p)) 16 (accepted (q, next-aim m p aim)))) r e in
+      let a = require-accepted (turn m 1 (on p aim)) 17 (require (fit m bs′) 3 (require (elem q (m .moves p)) 16 (accepted (q, next-aim m p aim)))) r e in
       let b = require-accepted (fit m bs′) 3 (require (elem q (m .moves p)) 16 (accepted (q, next-aim m p aim))) r (a .1) in
       let c = require-accepted (elem q (m .moves p)) 16 (accepted (q, next-aim m p aim)) r (b .1) in
       let t = turn-says 1 p aim (a .0) in

@@ -1,7 +1,7 @@
 -- The runner by its calls, and the run that calls make. Read after what check accepts.
 -- A runner serves one goal after another: the one that it serves is its aim.
 use mathlib.Core.Path.{_≡_}
-use mathlib.Core.Bool.{Bool, _&&_, cond}
+use mathlib.Core.Bool.{Bool, false, _&&_, cond}
 use mathlib.Core.List.{List, [], _∷_, _++_}
 use Prim.Native.Nat.{ℕ, suc, _<_}
 use lib.Dec.{eqb, ltb}
@@ -40,9 +40,11 @@ module _ (m : Meaning) where
   abbrev pub next-aim : ℕ → ℕ → ℕ
   next-aim p aim = cond (m .marked p aim) (cond (eqb (suc aim) (m .goals)) 0 (suc aim)) aim
 
-  -- the place is a position of the side with a goal for its aim: a place outside the arena is nobody's turn, as idle is
-  abbrev pub turn : ℕ → ℕ → ℕ → Bool
-  turn side p aim = ltb p (m .size) && ltb aim (m .goals) && eqb (m .owner p) side
+  -- it is the side's turn: the place is a position of the side with a goal for its aim. A place outside the arena is
+  -- nobody's turn, as idle is.
+  abbrev pub turn : ℕ → Place → Bool
+  turn side idle = false
+  turn side (on p aim) = ltb p (m .size) && ltb aim (m .goals) && eqb (m .owner p) side
 
   -- what a call answers: the new position and aim
   abbrev pub answer : Place → Call → Outcome (ℕ × ℕ)
@@ -54,12 +56,12 @@ module _ (m : Meaning) where
   answer idle (go bs) = refused 17 []
   answer (on p aim) (go bs) =
       let q : ℕ = goal-move-of m bs aim p in
-      require (turn 0 p aim) 17
+      require (turn 0 (on p aim)) 17
       (require (fit m bs) 3
       (require (elem q (m .moves p)) 18 (accepted (q, next-aim p aim))))
   answer idle (moved bs q) = refused 17 []
   answer (on p aim) (moved bs q) =
-      require (turn 1 p aim) 17
+      require (turn 1 (on p aim)) 17
       (require (fit m bs) 3
       (require (elem q (m .moves p)) 16 (accepted (q, next-aim p aim))))
 
