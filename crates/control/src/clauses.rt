@@ -3,7 +3,6 @@ ghost use Rattle.arena.specs.Bytes.{byte, number};
 ghost use Rattle.arena.specs.Sets.{all, elem};
 ghost use Rattle.arena.specs.Certificate.{approach-of, goal-of, side-of};
 ghost use Rattle.control.specs.Accept.{
-  avoided,
   carried,
   carried-for,
   clause-4,
@@ -17,8 +16,6 @@ ghost use Rattle.control.specs.Accept.{
   first-failing,
   good-step-of,
   head-right,
-  held,
-  kept,
   mark,
   nearer-of,
   ranked,
@@ -236,7 +233,7 @@ fn is_ranked_for<A: Arena>(arena: &A, bytes: &[u8], p: u16, g: u16) -> bool
     (rank == 0) == is_marked(arena, p, g)
 }
 
-/// Clause 4: each rank is below the number of positions, and is 0 exactly when the position is marked for the goal.
+/// Whether each rank is below the number of positions, and is 0 exactly when the position is marked for the goal.
 fn is_ranked<A: Arena>(arena: &A, bytes: &[u8], p: u16) -> bool
     requires { ⌜ p < meaning (now arena) .size ⌝ }
     ensures { λ r. ⌜ r ≡ ranked (meaning (now (arena .entry))) (now (bytes .entry)) p ⌝ }
@@ -261,7 +258,7 @@ fn is_steered_for<A: Arena>(arena: &A, bytes: &[u8], p: u16, g: u16) -> bool
     is_nearer(arena, bytes, g, p, q)
 }
 
-/// Clause 5: for each goal the field is a move that comes nearer to it.
+/// Whether for each goal the field is a move that comes nearer to it.
 fn is_steered<A: Arena>(arena: &A, bytes: &[u8], p: u16) -> bool
     requires { ⌜ p < meaning (now arena) .size ⌝ }
     ensures { λ r. ⌜ r ≡ steered (meaning (now (arena .entry))) (now (bytes .entry)) p ⌝ }
@@ -285,7 +282,7 @@ fn is_carried_for<A: Arena>(arena: &A, bytes: &[u8], p: u16, g: u16) -> bool
     do_all_come_nearer(arena, bytes, g, p)
 }
 
-/// Clause 6: the fields name no move, and every move comes nearer to every goal.
+/// Whether the fields name no move, and every move comes nearer to every goal.
 fn is_carried<A: Arena>(arena: &A, bytes: &[u8], p: u16) -> bool
     requires { ⌜ p < meaning (now arena) .size ⌝ }
     ensures { λ r. ⌜ r ≡ carried (meaning (now (arena .entry))) (now (bytes .entry)) p ⌝ }
@@ -298,38 +295,7 @@ fn is_carried<A: Arena>(arena: &A, bytes: &[u8], p: u16) -> bool
     true
 }
 
-/// Clause 7: the position is unmarked for its goal.
-fn is_avoided<A: Arena>(arena: &A, bytes: &[u8], p: u16) -> bool
-    requires { ⌜ p < meaning (now arena) .size ⌝ ∗ ⌜ goal-of (meaning (now arena)) (now bytes) p < meaning (now arena) .goals ⌝ }
-    ensures { λ r. ⌜ r ≡ avoided (meaning (now (arena .entry))) (now (bytes .entry)) p ⌝ }
-{
-    !is_marked(arena, p, goal_of(arena, bytes, p) as u16)
-}
-
-/// Clause 8: the field is a move and a good step.
-fn is_held<A: Arena>(arena: &A, bytes: &[u8], p: u16) -> bool
-    requires { ⌜ p < meaning (now arena) .size ⌝ }
-    ensures { λ r. ⌜ r ≡ held (meaning (now (arena .entry))) (now (bytes .entry)) p ⌝ }
-{
-    let q = move_of(arena, bytes, p);
-    if !is_move(arena, p, q) {
-        return false;
-    }
-    is_good_step(arena, bytes, p, q)
-}
-
-/// Clause 9: the field names no move, and every move is a good step.
-fn is_kept<A: Arena>(arena: &A, bytes: &[u8], p: u16) -> bool
-    requires { ⌜ p < meaning (now arena) .size ⌝ }
-    ensures { λ r. ⌜ r ≡ kept (meaning (now (arena .entry))) (now (bytes .entry)) p ⌝ }
-{
-    if move_of(arena, bytes, p) != NO_MOVE {
-        return false;
-    }
-    are_all_good_steps(arena, bytes, p)
-}
-
-/// Clause 4, asked on side 0.
+/// Clause 4, asked on side 0: each rank is below the number of positions, and is 0 exactly on a marked position.
 fn clause_4<A: Arena>(arena: &A, bytes: &[u8], p: u16) -> bool
     requires { ⌜ p < meaning (now arena) .size ⌝ }
     ensures { λ r. ⌜ r ≡ clause-4 (meaning (now (arena .entry))) (now (bytes .entry)) p ⌝ }
@@ -340,7 +306,7 @@ fn clause_4<A: Arena>(arena: &A, bytes: &[u8], p: u16) -> bool
     is_ranked(arena, bytes, p)
 }
 
-/// Clause 5, asked on side 0 where the controller owns.
+/// Clause 5, asked on side 0 where the controller owns: for each goal the field is a move that comes nearer to it.
 fn clause_5<A: Arena>(arena: &A, bytes: &[u8], p: u16) -> bool
     requires { ⌜ p < meaning (now arena) .size ⌝ }
     ensures { λ r. ⌜ r ≡ clause-5 (meaning (now (arena .entry))) (now (bytes .entry)) p ⌝ }
@@ -354,7 +320,7 @@ fn clause_5<A: Arena>(arena: &A, bytes: &[u8], p: u16) -> bool
     is_steered(arena, bytes, p)
 }
 
-/// Clause 6, asked on side 0 where the traffic owns.
+/// Clause 6, asked on side 0 where the traffic owns: the fields name no move, and every move comes nearer to every goal.
 fn clause_6<A: Arena>(arena: &A, bytes: &[u8], p: u16) -> bool
     requires { ⌜ p < meaning (now arena) .size ⌝ }
     ensures { λ r. ⌜ r ≡ clause-6 (meaning (now (arena .entry))) (now (bytes .entry)) p ⌝ }
@@ -368,7 +334,7 @@ fn clause_6<A: Arena>(arena: &A, bytes: &[u8], p: u16) -> bool
     is_carried(arena, bytes, p)
 }
 
-/// Clause 7, asked on side 1 at approach 0; the record has passed clause 3.
+/// Clause 7, asked on side 1 at approach 0: the position is unmarked for its goal. The record has passed clause 3.
 fn clause_7<A: Arena>(arena: &A, bytes: &[u8], p: u16) -> bool
     requires { ⌜ p < meaning (now arena) .size ⌝ ∗ ⌜ shaped (meaning (now arena)) (now bytes) p ≡ true ⌝ }
     ensures { λ r. ⌜ r ≡ clause-7 (meaning (now (arena .entry))) (now (bytes .entry)) p ⌝ }
@@ -379,10 +345,10 @@ fn clause_7<A: Arena>(arena: &A, bytes: &[u8], p: u16) -> bool
     if approach_of(arena, bytes, p) != 0 {
         return true;
     }
-    is_avoided(arena, bytes, p)
+    !is_marked(arena, p, goal_of(arena, bytes, p) as u16)
 }
 
-/// Clause 8, asked on side 1 where the traffic owns.
+/// Clause 8, asked on side 1 where the traffic owns: the field is a move and a good step.
 fn clause_8<A: Arena>(arena: &A, bytes: &[u8], p: u16) -> bool
     requires { ⌜ p < meaning (now arena) .size ⌝ }
     ensures { λ r. ⌜ r ≡ clause-8 (meaning (now (arena .entry))) (now (bytes .entry)) p ⌝ }
@@ -393,10 +359,14 @@ fn clause_8<A: Arena>(arena: &A, bytes: &[u8], p: u16) -> bool
     if !is_owned(arena, p, 1) {
         return true;
     }
-    is_held(arena, bytes, p)
+    let q = move_of(arena, bytes, p);
+    if !is_move(arena, p, q) {
+        return false;
+    }
+    is_good_step(arena, bytes, p, q)
 }
 
-/// Clause 9, asked on side 1 where the controller owns.
+/// Clause 9, asked on side 1 where the controller owns: the field names no move, and every move is a good step.
 fn clause_9<A: Arena>(arena: &A, bytes: &[u8], p: u16) -> bool
     requires { ⌜ p < meaning (now arena) .size ⌝ }
     ensures { λ r. ⌜ r ≡ clause-9 (meaning (now (arena .entry))) (now (bytes .entry)) p ⌝ }
@@ -407,7 +377,10 @@ fn clause_9<A: Arena>(arena: &A, bytes: &[u8], p: u16) -> bool
     if !is_owned(arena, p, 0) {
         return true;
     }
-    is_kept(arena, bytes, p)
+    if move_of(arena, bytes, p) != NO_MOVE {
+        return false;
+    }
+    are_all_good_steps(arena, bytes, p)
 }
 
 /// The number of the first clause from the third on that fails at position `p`.

@@ -12,7 +12,7 @@ use arena::goal_move_of;
 use arena::side_of;
 
 /// What may be asked of a runner: to start at a position, to make the controller's move, or to follow the traffic's.
-#[derive(Clone, Copy, Debug, PartialEq, Eq)]
+#[derive(Clone, Copy)]
 pub enum Event {
     Start(u16),
     Go,

@@ -1,7 +1,7 @@
 ghost use Prim.Native.Nat.{ℕ, _<_};
 ghost use Rattle.arena.specs.Refusals.{accepted};
 ghost use Rattle.arena.specs.Sets.{upto};
-ghost use Rattle.control.specs.Accept.{checked, given, judged, walk};
+ghost use Rattle.control.specs.Accept.{checked, given, walk};
 ghost use Rattle.control.specs.Answers.{verdict};
 ghost use Rattle.control.specs.Promise.{Promise};
 ghost use Rattle.std.specs.declared.result.Result.the-variants.{Ok};
@@ -52,10 +52,19 @@ fn walk_records<A: Arena>(arena: &A, bytes: &[u8]) -> Result<u16, CheckFault>
     Ok(count_given(arena, bytes))
 }
 
-/// All clauses.
-fn judge_clauses<A: Arena>(arena: &A, bytes: &[u8]) -> Result<u16, CheckFault>
-    ensures { λ r. ⌜ verdict r ≡ judged (meaning (now (arena .entry))) (now (bytes .entry)) ⌝ }
+/// What check answers.
+fn judge_all<A: Arena>(arena: &A, bytes: &[u8]) -> Result<u16, CheckFault>
+    ensures { λ r. ⌜ verdict r ≡ checked (meaning (now (arena .entry))) (now (bytes .entry)) ⌝ }
 {
+    if !is_between(1, 4096, arena.positions()) {
+        return Err(CheckFault::Positions);
+    }
+    if !is_between(1, 8, arena.goals()) {
+        return Err(CheckFault::Goals);
+    }
+    if !fits(arena, bytes) {
+        return Err(CheckFault::Length);
+    }
     if !is_head_right(arena, bytes) {
         return Err(CheckFault::Clause {
             clause: 1,
@@ -71,26 +80,10 @@ fn judge_clauses<A: Arena>(arena: &A, bytes: &[u8]) -> Result<u16, CheckFault>
     walk_records(arena, bytes)
 }
 
-/// What check answers.
-fn check_all<A: Arena>(arena: &A, bytes: &[u8]) -> Result<u16, CheckFault>
-    ensures { λ r. ⌜ verdict r ≡ checked (meaning (now (arena .entry))) (now (bytes .entry)) ⌝ }
-{
-    if !is_between(1, 4096, arena.positions()) {
-        return Err(CheckFault::Positions);
-    }
-    if !is_between(1, 8, arena.goals()) {
-        return Err(CheckFault::Goals);
-    }
-    if !fits(arena, bytes) {
-        return Err(CheckFault::Length);
-    }
-    judge_clauses(arena, bytes)
-}
-
 /// Whether the bytes are a certificate of the arena; answers the number of positions that it gives to the controller.
 pub fn check<A: Arena>(arena: &A, certificate: &[u8]) -> Result<u16, CheckFault>
     ensures answer { λ r. ⌜ verdict r ≡ checked (meaning (now (arena .entry))) (now (certificate .entry)) ⌝ }
     ensures promise { λ r. ⌜ ((c : ℕ) → r ≡ Ok c → Promise (meaning (now (arena .entry))) (now (certificate .entry))) ⌝ }
 {
-    check_all(arena, certificate)
+    judge_all(arena, certificate)
 }
