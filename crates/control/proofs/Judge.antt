@@ -48,25 +48,29 @@ module _ (m : Meaning) (bs : List ℕ) where
   walk-through [] next h = refl
   walk-through (p ∷ ps) next h = failing-none p 3 (clauses m bs p) (walk m bs ps next) (h p (in-head p ps)) ∙ walk-through ps next (λ q i. h q (in-tail q p ps i))
 
-  -- the walk at a position that is left, with the clause that the code found there
-  walk-here : (n p : ℕ) (next : Outcome ℕ) → p < n
-      → walk m bs (from p (n - p)) next ≡ failing p (first-failing 3 (clauses m bs p)) (walk m bs (from (p + 1) (n - (p + 1))) next)
-  walk-here n p next h =
-      let e : n - p ≡ suc (n - (p + 1)) = omega arith in
-      ap (λ c. walk m bs (from p c) next) e
-      ∙ ap (λ q. failing p (first-failing 3 (clauses m bs p)) (walk m bs (from q (n - (p + 1))) next)) (sym (add-one p))
+  -- what the walk over all positions answers, and the walk from p on
+  abbrev pub walked : Outcome ℕ
+  walked = walk m bs (upto (m .size)) (accepted (given m bs))
 
-  pub walk-stops : (n p i : ℕ) (next whole : Outcome ℕ) → p < n → walk m bs (from p (n - p)) next ≡ whole
-      → Some i ≡ first-failing 3 (clauses m bs p) → refused 14 (i ∷ p ∷ []) ≡ whole
-  walk-stops n p i next whole h left e = ap (λ o. failing p o (walk m bs (from (p + 1) (n - (p + 1))) next)) e ∙ sym (walk-here n p next h) ∙ left
+  abbrev pub walked-from : ℕ → Outcome ℕ
+  walked-from p = walk m bs (from p (m .size - p)) (accepted (given m bs))
 
-  pub walk-goes-on : (n p : ℕ) (next whole : Outcome ℕ) → p < n → walk m bs (from p (n - p)) next ≡ whole
-      → None ≡ first-failing 3 (clauses m bs p) → walk m bs (from (p + 1) (n - (p + 1))) next ≡ whole
-  walk-goes-on n p next whole h left e = ap (λ o. failing p o (walk m bs (from (p + 1) (n - (p + 1))) next)) e ∙ sym (walk-here n p next h) ∙ left
+  -- a loop over the positions: it stops at a clause that fails, goes on where none does, and ends with the count
+  walk-here : (p : ℕ) → p < m .size → walked-from p ≡ failing p (first-failing 3 (clauses m bs p)) (walked-from (p + 1))
+  walk-here p h =
+      let e : m .size - p ≡ suc (m .size - (p + 1)) = omega arith in
+      ap (λ c. walk m bs (from p c) (accepted (given m bs))) e
+      ∙ ap (λ q. failing p (first-failing 3 (clauses m bs p)) (walk m bs (from q (m .size - (p + 1))) (accepted (given m bs)))) (sym (add-one p))
 
-  pub walk-ends : (n p c : ℕ) (whole : Outcome ℕ) → n ≤ p → walk m bs (from p (n - p)) (accepted (given m bs)) ≡ whole → c ≡ given m bs → accepted c ≡ whole
-  walk-ends n p c whole h left e =
-      let z : 0 ≡ n - p = omega arith in
+  pub walk-stops : (p i : ℕ) → p < m .size → walked-from p ≡ walked → Some i ≡ first-failing 3 (clauses m bs p) → refused 14 (i ∷ p ∷ []) ≡ walked
+  walk-stops p i h left e = ap (λ o. failing p o (walked-from (p + 1))) e ∙ sym (walk-here p h) ∙ left
+
+  pub walk-goes-on : (p : ℕ) → p < m .size → walked-from p ≡ walked → None ≡ first-failing 3 (clauses m bs p) → walked-from (p + 1) ≡ walked
+  walk-goes-on p h left e = ap (λ o. failing p o (walked-from (p + 1))) e ∙ sym (walk-here p h) ∙ left
+
+  pub walk-ends : (p c : ℕ) → m .size ≤ p → walked-from p ≡ walked → c ≡ given m bs → accepted c ≡ walked
+  walk-ends p c h left e =
+      let z : 0 ≡ m .size - p = omega arith in
       ap accepted e ∙ ap (λ c. walk m bs (from p c) (accepted (given m bs))) z ∙ left
 
   walk-passed : (i n : ℕ) (next : Outcome ℕ) (c : ℕ) → walk m bs (from i n) next ≡ accepted c → (p : ℕ) → i ≤ p → p < i + n → Passed (clauses m bs p)

@@ -10,3 +10,4 @@ pub mod Stretch
 pub mod Win
 pub mod Kept
 pub mod Loops
+pub mod Turns

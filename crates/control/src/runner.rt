@@ -148,7 +148,10 @@ impl<A: Arena> Runner<A> {
             (_, Event::Start(p)) => self.begin(certificate, p)?,
             (Turn::Controller, Event::Go) => self.make(certificate)?,
             (Turn::Traffic, Event::Moved(q)) => self.follow(certificate, q)?,
-            _ => return Err(RunFault::NotNow),
+            (Turn::Nobody, Event::Go) => return Err(RunFault::NotNow),
+            (Turn::Nobody, Event::Moved(_)) => return Err(RunFault::NotNow),
+            (Turn::Controller, Event::Moved(_)) => return Err(RunFault::NotNow),
+            (Turn::Traffic, Event::Go) => return Err(RunFault::NotNow),
         };
         self.position = position;
         self.aim = aim;
