@@ -24,11 +24,15 @@ record-bytes m = 10 + 4 * m .goals
 abbrev pub certificate-bytes : Meaning → ℕ
 certificate-bytes m = m .size * record-bytes m + 10
 
+-- where the record of position p begins; after the last one, where the end does
+abbrev pub record-start : Meaning → ℕ → ℕ
+record-start m p = 6 + p * record-bytes m
+
 -- the fields of the record of position p, in any bytes
 module _ (m : Meaning) (bs : List ℕ) where
-  -- where the record begins; after the last one, where the end does
+  -- where the record begins
   abbrev pub at : ℕ → ℕ
-  at p = 6 + p * record-bytes m
+  at p = record-start m p
 
   -- the side that the position is given to
   abbrev pub side-of : ℕ → ℕ

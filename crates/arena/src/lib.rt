@@ -11,9 +11,19 @@ ghost use Rattle.arena.specs.Play.{Strategies-agree};
 ghost use mathlib.Core.Path.{_≡_};
 
 mod bytes;
+mod certificate;
 
 pub use bytes::byte_at;
 pub use bytes::number_at;
+pub use certificate::approach_of;
+pub use certificate::certificate_bytes;
+pub use certificate::goal_move_of;
+pub use certificate::goal_of;
+pub use certificate::move_of;
+pub use certificate::rank_of;
+pub use certificate::record_start;
+pub use certificate::side_of;
+pub use certificate::stage_of;
 
 /// An arena: positions that belong to the controller (0) or the traffic (1), moves between them, and goals that positions
 /// are marked for. All count from 0, and a move is named by the position that it leads to.

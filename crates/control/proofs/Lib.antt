@@ -1,0 +1,13 @@
+pub mod Table
+pub mod Judge
+pub mod Laps
+pub mod Runs
+pub mod Serve
+pub mod Fall
+pub mod Sink
+pub mod Hold
+pub mod Stretch
+pub mod Win
+pub mod Kept
+pub mod Loops
+pub mod Turns
