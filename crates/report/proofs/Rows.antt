@@ -94,6 +94,18 @@ row-some (x ∷ xs) h = refl
 pub line-joined : (text number owner goals moves : List ℕ) → text ++ (number ++ (codes " " ++ (owner ++ codes " "))) ++ goals ++ codes " " ++ moves ++ codes "\n" ≡ text ++ (number ++ (codes " " ++ owner) ++ (codes " " ++ goals) ++ (codes " " ++ moves) ++ codes "\n")
 line-joined text number owner goals moves = simp append-assoc
 
+-- a goal's decision, and the traffic's
+pub goal-joined : (text done rank move : List ℕ) → text ++ done ++ (codes " " ++ (rank ++ codes ":")) ++ move ≡ text ++ (done ++ (codes " " ++ (rank ++ (codes ":" ++ move))))
+goal-joined text done rank move = simp append-assoc
+
+pub traffic-joined : (text goal stage approach move : List ℕ)
+    → text ++ (codes " T " ++ (goal ++ (codes " " ++ (stage ++ (codes " " ++ (approach ++ codes " ")))))) ++ move
+    ≡ text ++ (codes " T " ++ (goal ++ (codes " " ++ (stage ++ (codes " " ++ (approach ++ (codes " " ++ move)))))))
+traffic-joined text goal stage approach move = simp append-assoc
+
+pub decision-joined : (text number side : List ℕ) → text ++ number ++ side ++ codes "\n" ≡ text ++ (number ++ (side ++ codes "\n"))
+decision-joined text number side = simp append-assoc
+
 -- the value of an answer that is there
 pub told : {A : Type 0} (b : Bool) (x y : A) → Some y ≡ within b x → y ≡ x
 told true x y e = cc

@@ -16,12 +16,14 @@ use std::fmt;
 
 mod faults;
 mod program;
+mod table;
 
 pub use faults::PlanFault;
 pub use faults::PlanFromAlloc;
 pub use faults::PlanFromOpen;
 pub use program::answer;
 pub use program::describe;
+pub use table::plan;
 
 /// The text of a plant: a line with the numbers of its positions and goals, then a line for each position.
 pub fn plant<A: Arena>(heap: Global, arena: &A) -> Result<String, AllocError>
@@ -124,7 +126,7 @@ fn push_next(out: &mut String, first: bool, n: u16) -> Result<(), AllocError>
 }
 
 // Writing to a string fails only for want of memory.
-fn added(result: fmt::Result) -> Result<(), AllocError>
+pub(crate) fn added(result: fmt::Result) -> Result<(), AllocError>
     ensures { λ r. ⌜ isOk r ≡ isOk result ⌝ }
 {
     match result {
