@@ -75,12 +75,12 @@ impl<A: Arena> Runner<A> {
         }
     }
 
-    /// The aim once the position is left: if the position is marked for it, the goal after it, and after the last the first.
-    fn next_aim(&self) -> u16
-        requires { ⌜ now self .position < meaning (now self .arena) .size ⌝ ∗ ⌜ now self .aim < meaning (now self .arena) .goals ⌝ }
-        ensures { λ r. ⌜ r ≡ next-aim (meaning (now (self .entry) .arena)) (now (self .entry) .position) (now (self .entry) .aim) ⌝ }
+    /// The aim once position `p` is left: if `p` is marked for it, the goal after it, and after the last the first.
+    fn aim_after(&self, p: u16) -> u16
+        requires { ⌜ p < meaning (now self .arena) .size ⌝ ∗ ⌜ now self .aim < meaning (now self .arena) .goals ⌝ }
+        ensures { λ r. ⌜ r ≡ next-aim (meaning (now (self .entry) .arena)) p (now (self .entry) .aim) ⌝ }
     {
-        if !is_marked(&self.arena, self.position, self.aim) {
+        if !is_marked(&self.arena, p, self.aim) {
             return self.aim;
         }
         let goals = self.arena.goals();
@@ -118,11 +118,11 @@ impl<A: Arena> Runner<A> {
         if !fits(&self.arena, certificate) {
             return Err(RunFault::Length);
         }
-        let q = goal_move_of(&self.arena, certificate, self.aim, self.position);
-        if !is_move(&self.arena, self.position, q) {
+        let to = goal_move_of(&self.arena, certificate, self.aim, self.position);
+        if !is_move(&self.arena, self.position, to) {
             return Err(RunFault::Field);
         }
-        Ok((q, self.next_aim()))
+        Ok((to, self.aim_after(self.position)))
     }
 
     /// What a move of the traffic to `q` answers at its turn.
@@ -136,7 +136,7 @@ impl<A: Arena> Runner<A> {
         if !is_move(&self.arena, self.position, q) {
             return Err(RunFault::Move);
         }
-        Ok((q, self.next_aim()))
+        Ok((q, self.aim_after(self.position)))
     }
 
     /// One event with a certificate shown: the only place where a runner changes. An accepted event answers the new
