@@ -1,0 +1,5 @@
+pub mod Attraction
+pub mod Stages
+pub mod Decisions
+pub mod Records
+pub mod Bytes

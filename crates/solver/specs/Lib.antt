@@ -1,0 +1,4 @@
+pub mod Attractor
+pub mod Solution
+pub mod Certificate
+pub mod Solve
