@@ -3,3 +3,8 @@ pub mod Stages
 pub mod Decisions
 pub mod Records
 pub mod Bytes
+mod Scans
+mod Within
+mod Filling
+mod Rounds
+mod Ranks

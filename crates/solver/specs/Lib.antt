@@ -2,3 +2,4 @@ pub mod Attractor
 pub mod Solution
 pub mod Certificate
 pub mod Solve
+pub mod Columns

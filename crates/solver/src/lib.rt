@@ -1,4 +1,1 @@
-/// Nothing.
-pub fn nothing() -> u8 {
-    0
-}
+mod attract;
