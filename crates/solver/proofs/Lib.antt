@@ -8,3 +8,7 @@ mod Within
 mod Filling
 mod Rounds
 mod Ranks
+mod Cores
+mod Giving
+pub mod Searching
+pub mod Dividing

@@ -3,3 +3,4 @@ pub mod Solution
 pub mod Certificate
 pub mod Solve
 pub mod Columns
+pub mod Memory

@@ -1,1 +1,2 @@
 mod attract;
+mod stage;
