@@ -12,3 +12,4 @@ mod Cores
 mod Giving
 pub mod Searching
 pub mod Dividing
+mod Choosing

@@ -4,3 +4,4 @@ pub mod Certificate
 pub mod Solve
 pub mod Columns
 pub mod Memory
+pub mod Deciding

@@ -1,2 +1,3 @@
 mod attract;
+mod decide;
 mod stage;
