@@ -13,3 +13,4 @@ mod Giving
 pub mod Searching
 pub mod Dividing
 mod Choosing
+mod Puts

@@ -5,3 +5,4 @@ pub mod Solve
 pub mod Columns
 pub mod Memory
 pub mod Deciding
+pub mod Writing

@@ -1,3 +1,4 @@
 mod attract;
 mod decide;
+mod record;
 mod stage;
