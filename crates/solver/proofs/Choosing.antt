@@ -18,7 +18,7 @@ use Rattle.solver.specs.Attractor.{rank}
 use Rattle.solver.specs.Solution.{target, stages, left, final, stage, given-up, approach, goal-rank, nearer, good-step, goal-move, traffic-move}
 use Rattle.solver.specs.Columns.{cell, code, present, Column}
 use Rattle.solver.specs.Memory.{ranks-at, Ranks, Standing}
-use Rattle.solver.specs.Deciding.{rank-in, comes-nearer, steps-well, qualifies, decision, Beside, Decided}
+use Rattle.solver.specs.Deciding.{rank-in, comes-nearer, steps-well, qualifies, decision, Beside}
 use Rattle.solver.proofs.Cores.{code-value}
 use Rattle.solver.proofs.Dividing.{present-left}
 
@@ -77,7 +77,7 @@ module _ (m : Meaning) (law : Lawful m) (w : List ℕ) (t : Standing m (stages m
         same : (q : ℕ) → q < m .size → comes-nearer (m .size) w from p q ≡ nearer m g p q
         same q b = λ j. present-final j q && (eqb (rank-is p h j) 0 || ltb (rank-is q b j) (rank-is p h j))
 
-  stage-of : (p : ℕ) → p < m .size → final m p ≡ false → getD w p 0 ≡ stage m p
+  pub stage-of : (p : ℕ) → p < m .size → final m p ≡ false → getD w p 0 ≡ stage m p
   stage-of p h z = t .stage-is p h ∙ cond-false (final m p) 0 (stage m p) z
 
   pub traffic-decision : (from p : ℕ) → p < m .size → final m p ≡ false → decision m w 1 from p ≡ traffic-move m p

@@ -19,7 +19,7 @@ use Rattle.solver.specs.Attractor.{rank, attracted}
 use Rattle.solver.specs.Solution.{target, core, missed, without, left, stages, final, earlier, stage, given-up, approach}
 use Rattle.solver.specs.Solve.{work-numbers}
 use Rattle.solver.specs.Columns.{cell, present}
-use Rattle.solver.specs.Memory.{ranks-at, Ranks, Searched, Staged, Standing, Divided}
+use Rattle.solver.specs.Memory.{ranks-at, Ranks, Searched, Staged, Standing, Ready, Beyond}
 use Rattle.solver.proofs.Stages.{Closed, closed-left, ended, some-number, missed-some}
 use Rattle.solver.proofs.Decisions.{pick, B, Taken, taken-at, taken-once, B-taken, not-final}
 use Rattle.solver.proofs.Filling.{below-is, present-same}
@@ -29,7 +29,7 @@ use Rattle.solver.proofs.Cores.{present-outside}
 pub record Dividing (m : Meaning) (w v : List ℕ) (s : ℕ) : Type 0 where
   pub early : s ≤ stages m
   pub standing : Standing m s v
-  pub high : (k : ℕ) → work-numbers m ≤ k → getD v k 0 ≡ getD w k 0
+  pub high : Beyond m w v
 
 -- six columns lie inside the numbers used
 pub six-fit : (m : Meaning) → 6 * m .size ≤ work-numbers m
@@ -71,7 +71,7 @@ module _ (m : Meaning) (law : Lawful m) (s : ℕ) where
             | inr h ↦ present-outside (m .size) v p h ∙ sym (left-outside p h)
           ]
 
-  pub standing-same : (v u : List ℕ) → ((k : ℕ) → k < 6 * m .size → getD u k 0 ≡ getD v k 0) → Standing m s v → Standing m s u
+  pub standing-same : (v u : List ℕ) → ((k : ℕ) → k < 3 * m .size → getD u k 0 ≡ getD v k 0) → Standing m s v → Standing m s u
   standing-same v u e t = record {
     stage-is = λ k h. e k (omega arith) ∙ t .stage-is k h;
     goal-is = λ k h z. e (m .size + k) (omega arith) ∙ t .goal-is k h z;
@@ -176,13 +176,12 @@ module _ (m : Meaning) (law : Lawful m) (w v u : List ℕ) (s : ℕ) (t : Dividi
   pub missed-is : (o : Option ℕ) → Searched m v u o → missed m (left m s) ≡ o
   missed-is o r = ap (missed m) (sym I) ∙ sym (r .answer)
 
-  pub divided : Searched m v u None → (s ≡ stages m) × Divided m w u
+  pub divided : Searched m v u None → (s ≡ stages m) × Ready m u
   divided r = (
     e,
     record {
-      standing = subst (λ i. Standing m i u) e (standing-same m law s v u (r .low) (t .standing));
+      standing = subst (λ i. Standing m i u) e (standing-same m law s v u (λ k h. r .low k (omega arith)) (t .standing));
       ranks = λ g h. subst (λ (i : ℕ → Bool). Ranks m i g u (ranks-at m g)) (I ∙ ap (left m) e) (r .ranks g h tt);
-      high = λ k h. r .high k h ∙ t .high k h;
     },
   )
     where
@@ -204,7 +203,7 @@ module _ (m : Meaning) (law : Lawful m) (w v u : List ℕ) (s : ℕ) (t : Dividi
   pub dividing-more : (g : ℕ) (x : List ℕ) → Searched m v u (Some g) → Staged m (s + 1) g u x → Dividing m w x (s + 1)
   dividing-more g x r d =
       let l = goes-on g r in
-      let st = standing-same m law s v u (r .low) (t .standing) in
+      let st = standing-same m law s v u (λ k h. r .low k (omega arith)) (t .standing) in
       let n : suc s ≡ s + 1 = omega arith in
       record {
         early = omega arith;

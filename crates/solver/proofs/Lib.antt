@@ -14,3 +14,4 @@ pub mod Searching
 pub mod Dividing
 mod Choosing
 mod Puts
+pub mod Laid

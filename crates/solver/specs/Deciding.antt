@@ -8,9 +8,9 @@ use lib.ListN.{length, getD}
 use Rattle.arena.specs.Arena.{Meaning}
 use Rattle.arena.specs.Sets.{first}
 use Rattle.arena.specs.Certificate.{no-move}
-use Rattle.solver.specs.Solution.{stages, final, traffic-move}
+use Rattle.solver.specs.Solution.{final, traffic-move}
 use Rattle.solver.specs.Columns.{cell, present}
-use Rattle.solver.specs.Memory.{ranks-at, Ranks, Standing}
+use Rattle.solver.specs.Memory.{Ready}
 
 -- the rank that a column has for p
 abbrev pub rank-in : List ℕ → ℕ → ℕ → ℕ
@@ -48,6 +48,5 @@ pub record Beside (n from at : ℕ) (w : List ℕ) : Type 0 where
 
 -- all is there but the controller's moves
 pub record Decided (m : Meaning) (w : List ℕ) : Type 0 where
-  pub standing : Standing m (stages m) w
-  pub ranks : (g : ℕ) → g < m .goals → Ranks m (final m) g w (ranks-at m g)
+  pub ready : Ready m w
   pub moves : (p : ℕ) → p < m .size → final m p ≡ false → cell w (4 * m .size) p ≡ traffic-move m p

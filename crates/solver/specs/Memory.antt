@@ -32,6 +32,10 @@ pub record Enough (m : Meaning) (w : List ℕ) : Type 0 where
   pub few : m .goals ≤ 8
   pub fits : work-numbers m ≤ length w
 
+-- memory v is memory w beyond the numbers that are used
+abbrev pub Beyond : Meaning → List ℕ → List ℕ → Type 0
+Beyond m w v = (k : ℕ) → work-numbers m ≤ k → getD v k 0 ≡ getD w k 0
+
 -- the positions present that a column of ranks misses
 abbrev pub unreached : ℕ → List ℕ → ℕ → ℕ → Bool
 unreached n w from p = present n w p && eqb (cell w from p) 0
@@ -54,7 +58,7 @@ pub record Searched (m : Meaning) (w v : List ℕ) (found : Option ℕ) : Type 0
   pub answer : found ≡ missed m (present (m .size) w)
   pub ranks : (g : ℕ) → g < m .goals → Asked found g → Ranks m (present (m .size) w) g v (ranks-at m g)
   pub low : (k : ℕ) → k < 6 * m .size → getD v k 0 ≡ getD w k 0
-  pub high : (k : ℕ) → work-numbers m ≤ k → getD v k 0 ≡ getD w k 0
+  pub high : Beyond m w v
 
 -- after a stage that picked goal g: what the traffic attracts to the core has gone
 pub record Staged (m : Meaning) (s g : ℕ) (w v : List ℕ) : Type 0 where
@@ -69,8 +73,7 @@ pub record Standing (m : Meaning) (s : ℕ) (v : List ℕ) : Type 0 where
   pub goal-is : (k : ℕ) → k < m .size → left m s k ≡ false → cell v (m .size) k ≡ given-up m k
   pub approach-is : (k : ℕ) → k < m .size → left m s k ≡ false → cell v (2 * m .size) k ≡ approach m k
 
--- after all stages
-pub record Divided (m : Meaning) (w v : List ℕ) : Type 0 where
+-- after all stages: all that decisions are read off
+pub record Ready (m : Meaning) (v : List ℕ) : Type 0 where
   pub standing : Standing m (stages m) v
   pub ranks : (g : ℕ) → g < m .goals → Ranks m (final m) g v (ranks-at m g)
-  pub high : (k : ℕ) → work-numbers m ≤ k → getD v k 0 ≡ getD w k 0

@@ -3,8 +3,11 @@ use mathlib.Core.Path.{_≡_}
 use mathlib.Core.Bool.{Bool, false, cond}
 use mathlib.Core.List.{List, [], _∷_, _++_}
 use Prim.Native.Nat.{ℕ, _+_, _*_, _<_, _≤_}
-use lib.ListN.{length, getD}
+use lib.ListN.{length, getD, drop}
+use Rattle.arena.specs.Arena.{Meaning}
 use Rattle.arena.specs.Bytes.{two}
+use Rattle.arena.specs.Certificate.{record-bytes, certificate-bytes}
+use Rattle.solver.specs.Certificate.{entry, certificate}
 use Rattle.solver.specs.Columns.{cell, present, Column}
 use Rattle.solver.specs.Deciding.{rank-in}
 
@@ -49,3 +52,16 @@ pub record Band (n width off len done : ℕ) (f : ℕ → List ℕ) (b c : List 
   pub front : (p o : ℕ) → p < n → o < off → getD c (6 + p * width + o) 0 ≡ getD b (6 + p * width + o) 0
   pub low : (i : ℕ) → i < 6 → getD c i 0 ≡ getD b i 0
   pub high : (i : ℕ) → 6 + n * width ≤ i → getD c i 0 ≡ getD b i 0
+
+-- the first bytes of each record are those of the certificate
+abbrev pub Rows : Meaning → ℕ → List ℕ → Type 0
+Rows m len c = (p o : ℕ) → p < m .size → o < len → getD c (6 + p * record-bytes m + o) 0 ≡ getD (entry m p) o 0
+
+-- bytes c are bytes b but for the records
+pub record Kept (m : Meaning) (b c : List ℕ) : Type 0 where
+  pub low : (i : ℕ) → i < 6 → getD c i 0 ≡ getD b i 0
+  pub high : (i : ℕ) → 6 + m .size * record-bytes m ≤ i → getD c i 0 ≡ getD b i 0
+
+-- bytes c are the certificate and then bytes b as they were
+pub record Written (m : Meaning) (b c : List ℕ) : Type 0 where
+  pub bytes : c ≡ certificate m ++ drop (certificate-bytes m) b

@@ -1,4 +1,5 @@
 mod attract;
 mod decide;
+mod plan;
 mod record;
 mod stage;

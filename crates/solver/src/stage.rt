@@ -3,9 +3,10 @@ ghost use Rattle.arena.specs.Sets.{any, upto};
 ghost use Rattle.solver.specs.Attractor.{rank};
 ghost use Rattle.solver.specs.Columns.{Column, Room, cell, code, present};
 ghost use Rattle.solver.specs.Memory.{
-  Divided,
+  Beyond,
   Enough,
   Ranks,
+  Ready,
   Searched,
   Staged,
   given,
@@ -164,7 +165,8 @@ pub fn run_stages<A: Arena>(a: &A, work: &mut [u16]) -> u16
     requires enough { ⌜ Enough (meaning (now a)) (now work) ⌝ }
     requires fresh { ⌜ ((k : ℕ) → k < meaning (now a) .size → getD (now work) k 0 ≡ 0) ⌝ }
     ensures count { λ r. ⌜ r ≡ stages (meaning (now (a .entry))) ⌝ }
-    ensures divided { λ r. ⌜ Divided (meaning (now (a .entry))) (now (work .entry)) (now (work .exit)) ⌝ }
+    ensures ready { λ r. ⌜ Ready (meaning (now (a .entry))) (now (work .exit)) ⌝ }
+    ensures beyond { λ r. ⌜ Beyond (meaning (now (a .entry))) (now (work .entry)) (now (work .exit)) ⌝ }
 {
     let n = a.positions();
     let mut s = 0;

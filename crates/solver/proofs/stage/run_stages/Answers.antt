@@ -1,5 +1,5 @@
 use native.Mathlib.Omega.{arith}
-use mathlib.Core.Path.{_≡_, sym, subst}
+use mathlib.Core.Path.{_≡_, sym, subst, _∙_}
 use Prim.Native.Nat.{ℕ, _+_, _-_, _*_, _<_, _≤_}
 use lib.ListN.{length}
 use Rattle.solver.specs.Columns.{Room, present}
@@ -24,7 +24,7 @@ returns-in-rest g c =
     let m = g .A·Arena .meaning (c .args .a .now) in
     let law = g .A·Arena .lawful (c .args .a .now) in
     let r = divided m law (c .args .work .now) (c .stages .work) (c .missed-goal .last .work) (c .stages .s) (c .stages .inv) (c .in-rest .ensures tt) in
-    record { count = r .0; divided = r .1 }
+    record { count = r .0; ready = r .1; beyond = λ k h. c .missed-goal .ensures .high k h ∙ c .stages .inv .high k h }
 
 pub add-s : need.add-s
 add-s g c =
