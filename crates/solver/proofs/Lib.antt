@@ -15,3 +15,4 @@ pub mod Dividing
 mod Choosing
 mod Puts
 pub mod Laid
+mod Solving

@@ -2,6 +2,7 @@ pub mod Attractor
 pub mod Solution
 pub mod Certificate
 pub mod Solve
+pub mod Refused
 pub mod Columns
 pub mod Memory
 pub mod Deciding

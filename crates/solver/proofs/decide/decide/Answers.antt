@@ -80,4 +80,4 @@ positions-again-then-not-is-owner g c =
     let f = decision m w (c .args .side) (c .args .from) in
     let pn : c .positions .p < g .A·Arena .meaning (c .args .a .now) .size = omega (arith, c .positions-n .ensures) in
     column-more p (c .args .at) f w v no-move (c .positions .inv) (omega arith)
-    (decision-other m law (c .args .side) (c .args .from) (c .args .at) p w v pn (c .pre) f (c .positions .inv) (sym (c .if-not-is-owner .ensures tt)))
+    (decision-other m law (c .args .side) (c .args .from) (c .args .at) p w v pn (c .pre) f (c .positions .inv) (let o = c .if-not-is-owner .ensures tt in cc))
