@@ -16,3 +16,4 @@ mod Choosing
 mod Puts
 pub mod Laid
 mod Solving
+pub mod Accepting

@@ -7,3 +7,4 @@ pub mod Columns
 pub mod Memory
 pub mod Deciding
 pub mod Writing
+pub mod Accepted
