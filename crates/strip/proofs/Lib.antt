@@ -1,2 +1,4 @@
 pub mod Passing
 pub mod Listing
+pub mod Moves
+pub mod MarkRoom

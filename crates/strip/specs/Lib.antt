@@ -1,4 +1,5 @@
 pub mod Rows
+pub mod Drafts
 pub mod Strip
 pub mod Refusals
 pub mod Faults

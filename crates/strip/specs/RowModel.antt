@@ -1,6 +1,7 @@
 -- The rows of the code as rows of the definitions.
-use Prim.Native.Nat.{ℕ}
-use lib.ListN.{take}
+use mathlib.Core.List.{List}
+use Prim.Native.Nat.{ℕ, _<_, _≤_}
+use lib.ListN.{length, getD, take}
 use Rattle.std.specs.declared.option.Option.{Option}
 use Rattle.std.specs.declared.option.Option.the-variants.{Some, None}
 use Rattle.strip.specs.Rows as rows
@@ -21,3 +22,9 @@ row-of r = record { owner = owner-number (r .owner); marks = r .marks; moves = t
 abbrev pub read-outcome : Option Row → Option rows.Row
 read-outcome None = None
 read-outcome (Some r) = Some (row-of r)
+
+-- where q stands among moves, or would: all moves before the place are below it, and the one there is not
+pub record Placed (moves : List ℕ) (q place : ℕ) : Type 0 where
+  pub within : place ≤ length moves
+  pub below : (j : ℕ) → j < place → getD moves j 0 < q
+  pub above : place < length moves → q ≤ getD moves place 0

@@ -5,6 +5,8 @@ mod opened;
 mod reader;
 mod row;
 
+pub use faults::LinkFault;
+pub use faults::MarkFault;
 pub use faults::OpenFault;
 pub use faults::OpenFromStrip;
 pub use faults::StripFault;

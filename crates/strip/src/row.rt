@@ -2,6 +2,7 @@ ghost use Prim.Native.Nat.{ℕ, _<_, _≤_};
 ghost use lib.ListN.{getD, length};
 ghost use mathlib.Core.Path.{_≡_};
 
+mod edits;
 mod methods;
 
 /// The side that a row's position belongs to.

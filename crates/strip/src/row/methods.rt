@@ -54,6 +54,18 @@ fn stored(bytes: &[u8]) -> Option<Row>
     })
 }
 
+impl Owner {
+    /// The owner's number: 0 for the controller, 1 for the traffic.
+    pub fn number(self) -> u16
+        ensures { λ r. ⌜ r ≡ owner-number self ⌝ }
+    {
+        match self {
+            Owner::Controller => 0,
+            Owner::Traffic => 1,
+        }
+    }
+}
+
 impl Row {
     /// The empty row: the controller's, unmarked, without moves.
     pub fn empty() -> Row
