@@ -14,6 +14,15 @@ use std::alloc::AllocError;
 use std::alloc::Global;
 use std::fmt;
 
+mod faults;
+mod program;
+
+pub use faults::PlanFault;
+pub use faults::PlanFromAlloc;
+pub use faults::PlanFromOpen;
+pub use program::answer;
+pub use program::describe;
+
 /// The text of a plant: a line with the numbers of its positions and goals, then a line for each position.
 pub fn plant<A: Arena>(heap: Global, arena: &A) -> Result<String, AllocError>
     ensures { λ r. ⌜ made r (λ s. string-bytes s ≡ plant-text (meaning (now (arena .entry)))) ⌝ }
