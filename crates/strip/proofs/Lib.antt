@@ -1,4 +1,2 @@
 pub mod Passing
 pub mod Listing
-pub mod Moves
-pub mod MarkRoom

@@ -1,8 +1,6 @@
-pub mod Rows
-pub mod Drafts
 pub mod Strip
 pub mod Refusals
 pub mod Faults
 pub mod Laws
 pub mod Parts
-pub mod RowModel
+pub mod Reading

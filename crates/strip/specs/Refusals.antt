@@ -1,5 +1,4 @@
--- The refusals of the calls on strips and drafts: for each case its number and the values that it names.
-use mathlib.Core.Bool.{Bool}
+-- The refusals of the strip's calls: for each case its number and the values that it names.
 use mathlib.Core.List.{[], _∷_}
 use Prim.Native.Nat.{ℕ}
 use Rattle.std.specs.declared.option.Option.{Option}
@@ -10,10 +9,6 @@ use Rattle.arena.specs.Refusals.{Outcome, accepted, refused, Done, done}
 use Rattle.strip.specs.declared.faults.StripFault.{StripFault}
 use Rattle.strip.specs.declared.faults.OpenFault.{OpenFault}
 use Rattle.strip.specs.declared.faults.OpenFault.the-variants.{Strip, NoMoves}
-use Rattle.strip.specs.declared.faults.LinkFault.{LinkFault}
-use Rattle.strip.specs.declared.faults.LinkFault.the-variants.{TooMany}
-use Rattle.strip.specs.declared.faults.MarkFault.{MarkFault}
-use Rattle.strip.specs.declared.faults.MarkFault.the-variants.{NoSuchGoal}
 
 -- the place that a strip's fault names, if there is one
 abbrev pub place-of : Result (Unit {0}) StripFault → Option ℕ
@@ -29,13 +24,3 @@ open-refusal (NoMoves position) = refused 11 (position ∷ [])
 abbrev pub open-outcome : Result (Unit {0}) OpenFault → Outcome Done
 open-outcome (Ok _) = accepted done
 open-outcome (Err f) = open-refusal f
-
--- a seventeenth move is number 12
-abbrev pub link-outcome : Result Bool LinkFault → Outcome Bool
-link-outcome (Ok changed) = accepted changed
-link-outcome (Err TooMany) = refused 12 []
-
--- a goal above 7 is number 2
-abbrev pub mark-outcome : Result Bool MarkFault → Outcome Bool
-mark-outcome (Ok changed) = accepted changed
-mark-outcome (Err NoSuchGoal) = refused 2 []
