@@ -1,4 +1,6 @@
 pub mod Strip
+pub mod Writing
+pub mod RoundTrip
 pub mod Refusals
 pub mod Faults
 pub mod Laws
