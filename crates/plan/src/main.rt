@@ -8,7 +8,7 @@ const LIMIT: u64 = 38 * 512 + 10 + 1;
 fn run(rt: &LibcRuntime) -> Result<(), AnyError> {
     let mut bytes = Vec::new(rt.alloc());
     rt.stdin().take(LIMIT).read_to_end(&mut bytes)?;
-    let text = report::answer(rt.alloc(), bytes.as_slice())?;
+    let text = planner::answer(rt.alloc(), bytes.as_slice())?;
     rt.print(text)?;
     Ok(())
 }

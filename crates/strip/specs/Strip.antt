@@ -17,7 +17,7 @@ use Rattle.arena.specs.Refusals.{Outcome, accepted, require-none}
 use Rattle.arena.specs.Arena.{Meaning, within}
 use Rattle.arena.specs.Sets.{concat, upto, between, least, holds}
 use Rattle.arena.specs.Bytes.{byte, number}
-use Rattle.strip.specs.Rows.{Row, meaning-of}
+use Rattle.row.specs.Rows.{Row, meaning-of}
 
 -- the length of a record
 abbrev pub row-bytes : ℕ

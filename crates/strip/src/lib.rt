@@ -1,9 +1,8 @@
 mod faults;
 mod fields;
-mod marks;
 mod opened;
 mod reader;
-mod row;
+mod records;
 
 pub use faults::OpenFault;
 pub use faults::OpenFaultDebug;
@@ -19,5 +18,4 @@ pub use opened::OpenedStrip;
 pub use opened::StripArena;
 pub use opened::open;
 pub use reader::next_record;
-pub use row::Owner;
-pub use row::Row;
+pub use records::read_row;

@@ -14,10 +14,10 @@ ghost use mathlib.Core.Path.{_≡_};
 use crate::faults::OpenFault;
 use crate::faults::OpenFromStrip;
 use crate::fields::inspect;
-use crate::marks::has_mark;
 use arena::Arena;
 use arena::byte_at;
 use arena::number_at;
+use row::has_mark;
 
 /// An opened strip: an arena that is read straight from the strip's bytes, which it borrows and does not copy. It holds
 /// no bytes, and is an arena of no positions, until `open` fills it.

@@ -5,7 +5,7 @@ use std::fs;
 fn show(rt: &LibcRuntime, name: &str) -> Result<(), AnyError> {
     let path = format!(rt.alloc(), "{name}.strip")?;
     let bytes = fs::read(rt, path.as_str())?;
-    let text = report::answer(rt.alloc(), bytes.as_slice())?;
+    let text = planner::answer(rt.alloc(), bytes.as_slice())?;
     println!(rt, "strip {name}")?;
     rt.print(text)?;
     Ok(())

@@ -1,0 +1,5 @@
+pub mod Rows
+pub mod Drafts
+pub mod Records
+pub mod RowModel
+pub mod Refusals

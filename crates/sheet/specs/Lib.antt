@@ -1,0 +1,4 @@
+pub mod Sheets
+pub mod Slots
+pub mod SheetModel
+pub mod Refusals

@@ -1,0 +1,24 @@
+mod faults;
+mod sheet;
+mod slip;
+mod slot;
+mod slots;
+
+pub use faults::LetGoFault;
+pub use faults::LetGoFaultDebug;
+pub use faults::LetGoFaultEq;
+pub use faults::LetGoFaultPartialEq;
+pub use faults::PutFault;
+pub use faults::PutFaultDebug;
+pub use faults::PutFaultEq;
+pub use faults::PutFaultPartialEq;
+pub use faults::ShapeFault;
+pub use faults::ShapeFaultDebug;
+pub use faults::ShapeFaultEq;
+pub use faults::ShapeFaultPartialEq;
+pub use faults::TakeFault;
+pub use faults::TakeFaultDebug;
+pub use faults::TakeFaultEq;
+pub use faults::TakeFaultPartialEq;
+pub use sheet::Sheet;
+pub use slip::Slip;
