@@ -1,23 +1,23 @@
 -- Decisions read off the work memory: they are not changed by the column that they are written to, and they are those of
 -- the solution.
-use mathlib.Core.Path.{_≡_, refl, sym, ap, subst, _∙_}
+use mathlib.Core.Path.{_≡_, refl, sym, ap, _∙_}
 use mathlib.Core.Bool.{Bool, true, false, not, _&&_, _||_, cond}
 use mathlib.Core.Logic.{_⊎_, inl, inr}
 use mathlib.Core.List.{List, [], _∷_}
-use Prim.Native.Nat.{ℕ, suc, _+_, _-_, _*_, _<_, _≤_}
+use Prim.Native.Nat.{ℕ, _+_, _-_, _*_, _<_}
 use native.Mathlib.Omega.{arith}
 use lib.Dec.{eqb, ltb}
-use lib.ListN.{length, getD}
-use Rattle.std.proofs.shelf.Tests.{both-ways, cases-bool, eq-eqb, ne-eqb, cond-true, cond-false, and-left, not-from-true, not-from-false}
+use lib.ListN.{getD}
+use Rattle.std.proofs.shelf.Tests.{cases-bool, cond-true, cond-false, and-left, not-from-true}
 use Rattle.arena.specs.Arena.{Meaning, Lawful}
-use Rattle.arena.specs.Sets.{first, valueOr}
+use Rattle.arena.specs.Sets.{first}
 use Rattle.arena.specs.Certificate.{no-move}
 use Rattle.arena.proofs.Basics.{In, in-head, in-tail}
 use Rattle.arena.proofs.Laws.{move-inside}
 use Rattle.solver.specs.Attractor.{rank}
-use Rattle.solver.specs.Solution.{target, stages, left, final, stage, given-up, approach, goal-rank, nearer, good-step, goal-move, traffic-move}
-use Rattle.solver.specs.Columns.{cell, code, present, Column}
-use Rattle.solver.specs.Memory.{ranks-at, Ranks, Standing}
+use Rattle.solver.specs.Solution.{target, stages, final, stage, goal-rank, nearer, good-step, goal-move, traffic-move}
+use Rattle.solver.specs.Columns.{cell, present, Column}
+use Rattle.solver.specs.Memory.{Ranks, Standing}
 use Rattle.solver.specs.Deciding.{rank-in, comes-nearer, steps-well, qualifies, decision, Beside}
 use Rattle.solver.proofs.Cores.{code-value}
 use Rattle.solver.proofs.Dividing.{present-left}

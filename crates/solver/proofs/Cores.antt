@@ -1,12 +1,12 @@
 -- Sets in columns: targets and cores as they are marked, and what a column of ranks tells of an attractor.
-use mathlib.Core.Path.{_≡_, refl, sym, ap, subst, _∙_}
+use mathlib.Core.Path.{_≡_, refl, sym, ap, _∙_}
 use mathlib.Core.Bool.{Bool, true, false, not, _&&_, cond}
 use mathlib.Core.Logic.{inl, inr}
 use mathlib.Core.List.{List}
 use Prim.Native.Nat.{ℕ, zero, suc, _+_, _-_, _<_, _≤_}
 use native.Mathlib.Omega.{arith}
 use lib.Dec.{eqb, ltb}
-use lib.ListN.{length, getD}
+use lib.ListN.{getD}
 use Rattle.std.specs.declared.option.Option.{Option}
 use Rattle.std.specs.declared.option.Option.the-variants.{Some, None}
 use Rattle.std.proofs.shelf.Tests.{cases-lt, cases-bool, lt-ltb, le-ltb, ne-eqb, and-left, not-from-true, not-from-false}
@@ -14,10 +14,10 @@ use Rattle.arena.specs.Arena.{Meaning}
 use Rattle.arena.specs.Sets.{from, upto, valueOr}
 use Rattle.solver.specs.Attractor.{round, rank, attracted}
 use Rattle.solver.specs.Solution.{target, core}
-use Rattle.solver.specs.Columns.{cell, code, present, numbered, Column}
+use Rattle.solver.specs.Columns.{code, present, numbered, Column}
 use Rattle.solver.specs.Memory.{unreached, Ranks}
 use Rattle.solver.proofs.Attraction.{grows-to}
-use Rattle.solver.proofs.Filling.{below-is, present-same}
+use Rattle.solver.proofs.Filling.{below-is}
 use Rattle.solver.proofs.Ranks.{least-yes, least-no}
 
 pub upto-at : (n j : ℕ) → j < n → getD (upto n) j 0 ≡ j

@@ -4,24 +4,24 @@ use mathlib.Core.Path.{_≡_, refl, sym, ap, subst, _∙_}
 use mathlib.Core.Bool.{Bool, true, false, not, _&&_, cond}
 use mathlib.Core.Logic.{_⊎_, inl, inr}
 use mathlib.Core.List.{List}
-use Prim.Native.Nat.{ℕ, zero, suc, _+_, _*_, _<_, _≤_}
+use Prim.Native.Nat.{ℕ, suc, _+_, _*_, _<_, _≤_}
 use native.Mathlib.Omega.{arith}
 use native.Mathlib.Nat.{mul-comm, mul-le-mul-left}
-use lib.Dec.{eqb, ltb}
+use lib.Dec.{eqb}
 use lib.ListN.{getD}
 use Rattle.std.specs.declared.option.Option.{Option}
 use Rattle.std.specs.declared.option.Option.the-variants.{Some, None}
-use Rattle.std.proofs.shelf.Tests.{both-ways, cases-lt, cases-bool, lt-ltb, le-ltb, eq-eqb, ne-eqb, and-left, and-right, not-from-true, not-from-false, cond-true, cond-false}
+use Rattle.std.proofs.shelf.Tests.{both-ways, cases-lt, cases-bool, lt-ltb, ne-eqb, and-right, not-from-true, not-from-false, cond-true, cond-false}
 use Rattle.arena.specs.Arena.{Meaning, Lawful}
 use Rattle.arena.specs.Sets.{valueOr}
 use Rattle.arena.proofs.Basics.{Yes, No}
 use Rattle.solver.specs.Attractor.{rank, attracted}
-use Rattle.solver.specs.Solution.{target, core, missed, without, left, stages, final, earlier, stage, given-up, approach}
+use Rattle.solver.specs.Solution.{core, missed, without, left, stages, earlier, stage, given-up, approach}
 use Rattle.solver.specs.Solve.{work-numbers}
 use Rattle.solver.specs.Columns.{cell, present}
 use Rattle.solver.specs.Memory.{ranks-at, Ranks, Searched, Staged, Standing, Ready, Beyond}
-use Rattle.solver.proofs.Stages.{Closed, closed-left, ended, some-number, missed-some}
-use Rattle.solver.proofs.Decisions.{pick, B, Taken, taken-at, taken-once, B-taken, not-final}
+use Rattle.solver.proofs.Stages.{closed-left, ended, some-number, missed-some}
+use Rattle.solver.proofs.Decisions.{pick, B, taken-at, taken-once, B-taken, not-final}
 use Rattle.solver.proofs.Filling.{below-is, present-same}
 use Rattle.solver.proofs.Cores.{present-outside}
 

@@ -1,16 +1,16 @@
 -- A column of memory that a loop fills from its front, and sets that a memory keeps while another column is filled.
-use mathlib.Core.Path.{_≡_, refl, sym, ap, subst, _∙_}
-use mathlib.Core.Bool.{Bool, true, false, _&&_, cond}
+use mathlib.Core.Path.{_≡_, refl, sym, ap, _∙_}
+use mathlib.Core.Bool.{Bool, _&&_}
 use mathlib.Core.Logic.{_≢_, inl, inr}
 use mathlib.Core.List.{List}
 use borrow.Author.Count.{below-more}
-use Prim.Native.Nat.{ℕ, _+_, _<_, _≤_}
+use Prim.Native.Nat.{ℕ, _+_, _<_}
 use native.Mathlib.Omega.{arith}
-use lib.Dec.{eqb, ltb, leb}
+use lib.Dec.{eqb, ltb}
 use lib.ListN.{length, getD, set}
 use Rattle.std.proofs.shelf.Lists.{getD-set-same, getD-set-other}
-use Rattle.std.proofs.shelf.Tests.{cases-lt, lt-ltb, le-ltb, lt-leb, le-leb, and-left, and-from}
-use Rattle.solver.specs.Columns.{cell, present, numbered, by-round, Column}
+use Rattle.std.proofs.shelf.Tests.{cases-lt, lt-ltb, le-ltb, and-left}
+use Rattle.solver.specs.Columns.{cell, present, Column}
 
 pub column-none : (at : ℕ) (f : ℕ → ℕ) (w : List ℕ) → Column 0 at f w w
 column-none at f w = record { here = λ k h. absurd (omega arith); low = λ k h. refl; high = λ k h. refl }

@@ -1,19 +1,18 @@
 -- A stage in memory: what the traffic attracts gets its stage, goal and approach, and the rest stays.
-use mathlib.Core.Path.{_≡_, refl, sym, ap, subst, _∙_}
-use mathlib.Core.Bool.{Bool, true, false, _&&_, cond}
+use mathlib.Core.Path.{_≡_, sym, ap, _∙_}
+use mathlib.Core.Bool.{Bool, cond}
 use mathlib.Core.List.{List}
 use Prim.Native.Nat.{ℕ, _+_, _-_, _*_, _<_, _≤_}
 use native.Mathlib.Omega.{arith}
-use lib.Dec.{eqb, ltb}
+use lib.Dec.{ltb}
 use lib.ListN.{getD}
 use Rattle.std.proofs.shelf.Tests.{lt-ltb, le-ltb, and-left, cond-true, cond-false}
 use Rattle.arena.specs.Arena.{Meaning}
-use Rattle.arena.specs.Sets.{valueOr}
 use Rattle.solver.specs.Attractor.{rank, attracted}
-use Rattle.solver.specs.Solution.{target, core}
+use Rattle.solver.specs.Solution.{core}
 use Rattle.solver.specs.Columns.{cell, code, present, numbered, Column}
 use Rattle.solver.specs.Memory.{unreached, given, Ranks, Staged}
-use Rattle.solver.proofs.Filling.{present-same, column-is, column-twice}
+use Rattle.solver.proofs.Filling.{present-same}
 use Rattle.solver.proofs.Cores.{present-outside, marked-set, rank-some, code-value, unreached-core}
 
 module _ (n at p : ℕ) (x : ℕ → ℕ) (w v : List ℕ) (before : at + n ≤ 3 * n) (below : p < n) (c : Column p at (given n w at x) w v) where

@@ -3,30 +3,27 @@
 use mathlib.Core.Path.{_≡_, refl, sym, ap, subst, _∙_}
 use mathlib.Core.Bool.{Bool, true, false, cond}
 use mathlib.Core.Logic.{_⊎_, inl, inr}
-use mathlib.Core.List.{List, [], _∷_, _++_}
+use mathlib.Core.List.{List, _++_}
 use Prim.Native.Nat.{ℕ, zero, suc, _+_, _-_, _*_, _<_, _≤_}
 use native.Mathlib.Omega.{arith}
-use native.Mathlib.Nat.{suc-mul, zero-mul, mul-comm, mul-le-mul-right}
-use lib.Dec.{eqb, ltb}
+use native.Mathlib.Nat.{suc-mul, zero-mul}
 use lib.ListN.{length, getD, drop}
 use Rattle.std.proofs.shelf.Lists.{ext-getD, getD-append-left, getD-append-right, getD-drop, length-append, length-drop}
-use Rattle.std.proofs.shelf.Tests.{cases-bool, cases-lt, cond-true, cond-false}
+use Rattle.std.proofs.shelf.Tests.{cases-bool, cases-lt}
 use Rattle.arena.specs.Arena.{Meaning, Lawful}
 use Rattle.arena.specs.Sets.{upto, concat}
-use Rattle.arena.specs.Bytes.{two}
 use Rattle.arena.specs.Certificate.{record-bytes, certificate-bytes}
 use Rattle.solver.specs.Certificate.{goal-entry, controller-record, traffic-record, entry, head, end, certificate}
-use Rattle.solver.specs.Solution.{stages, left, final, stage, given-up, approach, goal-rank, goal-move, traffic-move}
-use Rattle.solver.specs.Solve.{work-numbers}
-use Rattle.solver.specs.Columns.{cell, present, Column}
+use Rattle.solver.specs.Solution.{stages, final, stage, given-up, approach, goal-rank, goal-move, traffic-move}
+use Rattle.solver.specs.Columns.{cell, Column}
 use Rattle.solver.specs.Memory.{ranks-at, Ranks, Standing, Ready, Beyond}
 use Rattle.solver.specs.Deciding.{rank-in, decision, Decided}
 use Rattle.solver.specs.Writing.{front-bytes, goal-bytes, front-part, goal-part, Goals-fit, Put, Band, Rows, Kept, Written}
 use Rattle.solver.proofs.Decisions.{given-up-small}
 use Rattle.solver.proofs.Records.{whole-at, whole-end}
-use Rattle.solver.proofs.Bytes.{Reads, reads, length-entry, goal-byte}
+use Rattle.solver.proofs.Bytes.{reads, length-entry, goal-byte}
 use Rattle.solver.proofs.Dividing.{standing-same, six-fit}
-use Rattle.solver.proofs.Searching.{column-past, column-fits, column-next}
+use Rattle.solver.proofs.Searching.{column-past, column-next}
 use Rattle.solver.proofs.Puts.{rows-apart}
 use Rattle.solver.proofs.Choosing.{present-final, rank-is, goal-decision, traffic-decision, stage-of}
 

@@ -1,24 +1,23 @@
 -- Ranks built round by round. A column holds the rank as found in the rounds so far; a round that changes nothing is the
 -- last, and then these are the ranks.
 use mathlib.Core.Path.{_≡_, refl, sym, ap, subst, _∙_}
-use mathlib.Core.Bool.{Bool, true, false, not, _&&_, _||_, cond}
+use mathlib.Core.Bool.{Bool, true, false, _&&_, _||_, cond}
 use mathlib.Core.Logic.{_⊎_, inl, inr}
 use mathlib.Core.List.{List}
 use Prim.Native.Nat.{ℕ, zero, suc, _+_, _<_, _≤_}
 use native.Mathlib.Omega.{arith}
-use lib.Dec.{eqb, ltb, leb}
-use lib.ListN.{getD}
+use lib.Dec.{ltb}
 use Rattle.std.specs.declared.option.Option.{Option}
 use Rattle.std.specs.declared.option.Option.the-variants.{Some, None}
-use Rattle.std.proofs.shelf.Tests.{both-ways, cases-lt, cases-bool, lt-ltb, le-ltb, ltb-true, and-left, or-from, cond-true, cond-false, not-from-true, not-from-false}
+use Rattle.std.proofs.shelf.Tests.{both-ways, cases-lt, cases-bool, lt-ltb, le-ltb, and-left, or-from, cond-true, cond-false}
 use Rattle.arena.specs.Arena.{Meaning, Lawful}
-use Rattle.arena.specs.Sets.{seek, least, holds, valueOr}
-use Rattle.arena.proofs.Basics.{Yes, No, Least, seek-some, least-none, least-found, cases-option}
-use Rattle.solver.specs.Attractor.{round, rank, attracted}
+use Rattle.arena.specs.Sets.{seek, least, holds}
+use Rattle.arena.proofs.Basics.{Yes, No, Least, seek-some, least-found, cases-option}
+use Rattle.solver.specs.Attractor.{round, rank}
 use Rattle.solver.specs.Columns.{cell, code, present, numbered, by-round, drawn-in, next, Column, Room}
 use Rattle.solver.proofs.Attraction.{R, grows-to, Last, last-next}
-use Rattle.solver.proofs.Filling.{below-same, below-is, present-same, column-is, column-twice}
-use Rattle.solver.proofs.Rounds.{Early, early-zero, early-there}
+use Rattle.solver.proofs.Filling.{below-is, present-same, column-is, column-twice}
+use Rattle.solver.proofs.Rounds.{Early, early-there}
 
 gap : (a b : ℕ) → a ≤ b → (d : ℕ) × (b ≡ a + d)
 gap zero b l = (b, omega arith)

@@ -1,13 +1,12 @@
 -- A round in place. What a round adds is written with a number that the round does not read, so the sets that it reads stay.
-use mathlib.Core.Path.{_≡_, refl, sym, ap, subst, _∙_}
+use mathlib.Core.Path.{_≡_, refl, sym, ap, _∙_}
 use mathlib.Core.Bool.{Bool, true, false, not, _&&_, _||_, cond}
 use mathlib.Core.Logic.{inl, inr}
 use mathlib.Core.List.{List, [], _∷_}
 use Prim.Native.Nat.{ℕ, _+_, _<_, _≤_}
 use native.Mathlib.Omega.{arith}
 use lib.Dec.{eqb, ltb, leb}
-use lib.ListN.{length, getD}
-use Rattle.std.proofs.shelf.Tests.{cases-lt, cases-bool, lt-ltb, le-ltb, lt-leb, le-leb, and-left, and-right, and-from, eq-eqb, ne-eqb, cond-true, cond-false}
+use Rattle.std.proofs.shelf.Tests.{cases-lt, lt-ltb, le-ltb, lt-leb, le-leb, and-left, and-right, and-from, eq-eqb, ne-eqb, cond-true, cond-false}
 use Rattle.arena.specs.Arena.{Meaning}
 use Rattle.arena.specs.Sets.{any, all}
 use Rattle.solver.specs.Columns.{cell, present, by-round, drawn-in, Column, Room, next}

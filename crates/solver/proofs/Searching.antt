@@ -7,17 +7,17 @@ use Prim.Native.Nat.{ℕ, suc, _+_, _*_, _<_, _≤_}
 use native.Mathlib.Omega.{arith}
 use native.Mathlib.Numerals.{add-one}
 use native.Mathlib.Nat.{suc-mul, mul-comm, mul-le-mul-right}
-use lib.ListN.{length, getD}
+use lib.ListN.{getD}
 use Rattle.std.specs.declared.option.Option.the-variants.{Some, None}
 use Rattle.std.proofs.shelf.Tests.{both-ways, cases-eq, cases-lt}
 use Rattle.arena.specs.Arena.{Meaning}
 use Rattle.arena.specs.Sets.{any, upto, least}
 use Rattle.arena.proofs.Basics.{Yes, No, least-none, least-found}
 use Rattle.solver.specs.Attractor.{rank}
-use Rattle.solver.specs.Solution.{target, core, missed}
+use Rattle.solver.specs.Solution.{target, core}
 use Rattle.solver.specs.Solve.{work-numbers}
-use Rattle.solver.specs.Columns.{cell, code, present, Column, Room}
-use Rattle.solver.specs.Memory.{ranks-at, unreached, Enough, Ranks, Asked, Searched}
+use Rattle.solver.specs.Columns.{cell, code, present, Column}
+use Rattle.solver.specs.Memory.{ranks-at, unreached, Ranks, Searched}
 use Rattle.solver.proofs.Filling.{present-same}
 use Rattle.solver.proofs.Ranks.{or-else, least-more}
 use Rattle.solver.proofs.Cores.{unreached-core}

@@ -1,14 +1,14 @@
 -- Solve, from its tests: which refusal, and what the memories then hold.
-use mathlib.Core.Path.{_≡_, refl, sym, ap, subst, _∙_}
-use mathlib.Core.Bool.{Bool, true, false, _&&_}
+use mathlib.Core.Path.{_≡_, sym, ap, _∙_}
+use mathlib.Core.Bool.{true, false}
 use mathlib.Core.List.{List, [], _++_}
-use Prim.Native.Nat.{ℕ, _+_, _*_, _-_, _<_, _≤_}
+use Prim.Native.Nat.{ℕ, _+_, _-_, _≤_}
 use native.Mathlib.Omega.{arith}
 use lib.Dec.{leb}
 use lib.ListN.{length, getD, drop, replicate}
 use Rattle.std.proofs.shelf.Lists.{ext-getD, getD-drop, length-drop}
 use Rattle.std.proofs.shelf.Tests.{and-parts, leb-true}
-use Rattle.arena.specs.Refusals.{Outcome, accepted, refused, require, after}
+use Rattle.arena.specs.Refusals.{accepted, refused, require, after}
 use Rattle.arena.specs.Arena.{Meaning}
 use Rattle.arena.specs.Sets.{between}
 use Rattle.arena.specs.Certificate.{certificate-bytes}

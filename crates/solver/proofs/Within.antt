@@ -17,6 +17,13 @@ within-none : {A : Type 0} (b : Bool) (x : A) → None ≡ within b x → b ≡ 
 within-none true x e h = let z : _≡_ {A = ℕ} 0 1 = cc in omega arith
 within-none false x e h = both-ways false refl h
 
+-- what was tested of an answer holds of what it is equal to
+pub told : (f : ℕ → Bool) (b : Bool) (n k : ℕ) → b ≡ f n → n ≡ k → f k ≡ b
+told f b n k h e = cc
+
+pub told-both : (f : ℕ → ℕ → Bool) (b : Bool) (n k q x : ℕ) → b ≡ f n q → n ≡ k → q ≡ x → f k x ≡ b
+told-both f b n k q x h e d = cc
+
 module _ (m : Meaning) (p : ℕ) where
   pub owner-is : (o : ℕ) → Some o ≡ owner-answer m p → o ≡ m .owner p
   owner-is o e = within-some (ltb p (m .size)) (m .owner p) o e .1

@@ -8,7 +8,7 @@
 --   column 5   the controller's move for the goal that is being written
 --   column 6 and on, one for each goal: one more than the rank in the controller's attractor of the goal
 use mathlib.Core.Path.{_≡_}
-use mathlib.Core.Bool.{Bool, true, false, _&&_, cond}
+use mathlib.Core.Bool.{Bool, false, _&&_, cond}
 use mathlib.Core.List.{List}
 use Prim.Native.Nat.{ℕ, _+_, _-_, _*_, _<_, _≤_}
 use lib.Dec.{eqb, ltb}

@@ -1,21 +1,9 @@
-ghost use Prim.Native.Nat.{ℕ, _+_, _<_, _≤_};
+ghost use Prim.Native.Nat.{ℕ, _<_, _≤_};
 ghost use Rattle.arena.specs.Sets.{any};
 ghost use Rattle.solver.specs.Attractor.{rank};
-ghost use Rattle.solver.specs.Columns.{
-  Column,
-  Ranked,
-  Room,
-  by-round,
-  cell,
-  code,
-  drawn-in,
-  next,
-  numbered,
-  present,
-  sought,
-};
+ghost use Rattle.solver.specs.Columns.{Column, Ranked, Room, by-round, cell, code, drawn-in, next, numbered, present, sought};
 ghost use lib.ListN.{length};
-ghost use mathlib.Core.Bool.{Bool, false};
+ghost use mathlib.Core.Bool.{false};
 ghost use mathlib.Core.Path.{_≡_};
 use arena::Arena;
 

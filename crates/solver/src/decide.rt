@@ -1,13 +1,6 @@
-ghost use Prim.Native.Nat.{ℕ, _+_, _-_, _*_, _<_, _≤_};
-ghost use Rattle.solver.specs.Columns.{Column, cell, present};
-ghost use Rattle.solver.specs.Deciding.{
-  Beside,
-  comes-nearer,
-  decision,
-  qualifies,
-  rank-in,
-  steps-well,
-};
+ghost use Prim.Native.Nat.{_+_, _*_, _<_, _≤_};
+ghost use Rattle.solver.specs.Columns.{Column};
+ghost use Rattle.solver.specs.Deciding.{Beside, comes-nearer, decision, qualifies, rank-in, steps-well};
 ghost use lib.Dec.{eqb, ltb};
 ghost use lib.ListN.{length, getD};
 ghost use mathlib.Core.Bool.{_&&_, _||_};

@@ -1,4 +1,4 @@
-ghost use Prim.Native.Nat.{ℕ, _+_, _*_, _<_, _≤_};
+ghost use Prim.Native.Nat.{_+_, _*_, _≤_};
 ghost use Rattle.arena.specs.Sets.{between};
 ghost use Rattle.arena.specs.Arena.{Lawful, Meaning};
 ghost use Rattle.solver.specs.Accepted.{Solved-is-accepted};

@@ -1,4 +1,4 @@
-ghost use Prim.Native.Nat.{ℕ, _+_, _*_, _<_, _≤_};
+ghost use Prim.Native.Nat.{_≤_};
 ghost use Rattle.arena.specs.Certificate.{certificate-bytes, record-bytes};
 ghost use Rattle.arena.specs.Sets.{count, upto};
 ghost use Rattle.solver.specs.Columns.{present};

@@ -1,20 +1,8 @@
-ghost use Prim.Native.Nat.{ℕ, _+_, _*_, _<_, _≤_};
+ghost use Prim.Native.Nat.{_+_, _*_, _<_, _≤_};
 ghost use Rattle.arena.specs.Bytes.{two};
-ghost use Rattle.solver.specs.Columns.{Room, cell, present};
-ghost use Rattle.solver.specs.Writing.{
-  Band,
-  Goals-fit,
-  Put,
-  Records,
-  front-bytes,
-  front-part,
-  goal-bytes,
-  goal-part,
-};
+ghost use Rattle.solver.specs.Writing.{Band, Goals-fit, Put, Records, front-bytes, front-part, goal-bytes, goal-part};
 ghost use lib.ListN.{length};
-ghost use mathlib.Core.Bool.{false};
 ghost use mathlib.Core.List.{[], _∷_, _++_};
-ghost use mathlib.Core.Path.{_≡_};
 use super::attract::is_present;
 use super::decide::rank_in;
 
@@ -89,15 +77,11 @@ fn write_front_of(work: &[u16], n: u16, p: u16, out: &mut [u8], at: usize)
     }
     let n = n as usize;
     let p = p as usize;
-    write_front(
-        out,
-        at,
-        1,
-        work[n + p] as u8,
-        work[p],
-        work[2 * n + p],
-        work[4 * n + p],
-    );
+    let goal = work[n + p] as u8;
+    let stage = work[p];
+    let approach = work[2 * n + p];
+    let step = work[4 * n + p];
+    write_front(out, at, 1, goal, stage, approach, step);
 }
 
 // The goal with the ranks at `from` in the record of position `p`.

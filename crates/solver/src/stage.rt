@@ -2,20 +2,10 @@ ghost use Prim.Native.Nat.{ℕ, _+_, _-_, _*_, _<_, _≤_};
 ghost use Rattle.arena.specs.Sets.{any, upto};
 ghost use Rattle.solver.specs.Attractor.{rank};
 ghost use Rattle.solver.specs.Columns.{Column, Room, cell, code, present};
-ghost use Rattle.solver.specs.Memory.{
-  Beyond,
-  Enough,
-  Ranks,
-  Ready,
-  Searched,
-  Staged,
-  given,
-  ranks-at,
-  unreached,
-};
+ghost use Rattle.solver.specs.Memory.{Beyond, Enough, Ranks, Ready, Searched, Staged, given, unreached};
 ghost use Rattle.solver.specs.Solution.{stages, target};
 ghost use lib.ListN.{length, getD};
-ghost use mathlib.Core.Bool.{Bool, cond};
+ghost use mathlib.Core.Bool.{cond};
 ghost use mathlib.Core.Path.{_≡_};
 use super::attract::attract;
 use super::attract::is_present;

@@ -1,5 +1,4 @@
-use native.Mathlib.Omega.{arith}
-use mathlib.Core.Path.{_≡_, sym, ap, subst, _∙_}
+use mathlib.Core.Path.{_≡_, sym, ap, _∙_}
 use mathlib.Core.Bool.{Bool, true, false, _&&_}
 use mathlib.Core.List.{List, _++_}
 use Prim.Native.Nat.{ℕ, _+_, _*_}
@@ -10,11 +9,8 @@ use Rattle.arena.specs.Arena.{Meaning}
 use Rattle.arena.specs.Sets.{between}
 use Rattle.solver.specs.Solve.{enough}
 use Rattle.solver.proofs.Solving.{refused-first, refused-second, refused-third, solved, bytes-stay, work-stays, bytes-written, work-wiped, long-enough}
+use Rattle.solver.proofs.Within.{told}
 use Rattle.solver.proofs.solve.Needs as need
-
--- what was asked of an answer of the arena, asked of the arena
-told : (f : ℕ → Bool) (b : Bool) (n k : ℕ) → b ≡ f n → n ≡ k → f k ≡ b
-told f b n k h e = cc
 
 told-enough : (m : Meaning) (b w : List ℕ) (t : Bool) (n k : ℕ) → t ≡ (leb (n * (10 + 4 * k) + 10) (length b) && leb (n * (k + 6)) (length w)) → n ≡ m .size → k ≡ m .goals → enough m b w ≡ t
 told-enough m b w t n k h e d = sym (h ∙ (λ j. leb (e j * (10 + 4 * d j) + 10) (length b) && leb (e j * (d j + 6)) (length w)))

@@ -1,8 +1,6 @@
 use native.Mathlib.Omega.{arith}
 use native.Mathlib.Numerals.{add-one}
-use mathlib.Core.Path.{_≡_, refl, sym, ap, subst, _∙_}
-use Prim.Native.Nat.{ℕ, suc, _+_, _<_, _≤_}
-use lib.ListN.{length}
+use mathlib.Core.Path.{_≡_, refl, sym, subst}
 use Rattle.solver.specs.Columns.{Column}
 use Rattle.solver.proofs.Ranks.{number, number-start, number-low, column-next, column-over}
 use Rattle.solver.proofs.attract.attract.Needs as need

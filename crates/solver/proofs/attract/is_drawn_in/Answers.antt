@@ -1,18 +1,13 @@
 use native.Mathlib.Omega.{arith}
-use mathlib.Core.Path.{_≡_, sym, _∙_}
-use mathlib.Core.Bool.{Bool, true, false}
-use Prim.Native.Nat.{ℕ}
+use mathlib.Core.Path.{sym, _∙_}
+use mathlib.Core.Bool.{true, false}
 use Rattle.solver.specs.Columns.{present, by-round}
 use Rattle.solver.proofs.Rounds.{drawn-out, drawn-own, drawn-other}
-use Rattle.solver.proofs.Within.{owner-is, owner-there}
+use Rattle.solver.proofs.Within.{owner-is, owner-there, told}
 use Rattle.solver.proofs.attract.is_drawn_in.Needs as need
 
 pub returns-in-rest : need.returns-in-rest
 returns-in-rest g c = absurd (owner-there (g .A·Arena .meaning (c .args .a .now)) (c .args .p) (omega arith) (c .in-rest .ensures tt))
-
--- what was asked of n, asked of the number of positions
-told : (f : ℕ → Bool) (b : Bool) (n k : ℕ) → b ≡ f n → n ≡ k → f k ≡ b
-told f b n k h e = cc
 
 pub returns-then-not-is-present : need.returns-then-not-is-present
 returns-then-not-is-present g c =

@@ -1,11 +1,10 @@
 use native.Mathlib.Omega.{arith}
-use mathlib.Core.Path.{_≡_, refl, sym, ap, subst, _∙_}
-use mathlib.Core.Bool.{Bool, true, false, cond}
-use mathlib.Core.List.{List}
-use Prim.Native.Nat.{ℕ, _+_, _<_, _≤_}
-use lib.ListN.{length, getD}
+use mathlib.Core.Path.{_≡_, refl, sym, subst, _∙_}
+use mathlib.Core.Bool.{true, false}
+use Prim.Native.Nat.{_+_, _<_}
+use lib.ListN.{length}
 use Rattle.std.proofs.shelf.Tests.{true≢false}
-use Rattle.solver.specs.Columns.{cell, present, by-round, drawn-in, next, Room, Column}
+use Rattle.solver.specs.Columns.{next, Column}
 use Rattle.solver.proofs.Filling.{column-none, column-more, column-pass}
 use Rattle.solver.proofs.Rounds.{next-new, next-old}
 use Rattle.solver.proofs.attract.one_round.Needs as need

@@ -1,8 +1,8 @@
 use native.Mathlib.Omega.{arith}
-use mathlib.Core.Path.{_≡_, sym, ap, subst, _∙_}
-use mathlib.Core.Bool.{Bool, true, false}
-use Prim.Native.Nat.{ℕ, _+_, _-_, _<_, _≤_}
-use lib.ListN.{length, getD, drop}
+use mathlib.Core.Path.{_≡_, sym, subst}
+use mathlib.Core.Bool.{true, false}
+use Prim.Native.Nat.{_-_, _<_}
+use lib.ListN.{getD}
 use Rattle.arena.specs.Certificate.{no-move}
 use Rattle.arena.specs.Sets.{first}
 use Rattle.solver.specs.Columns.{Column}
@@ -10,14 +10,11 @@ use Rattle.solver.specs.Deciding.{qualifies, decision}
 use Rattle.solver.proofs.Scans.{first-found, first-passed, first-none}
 use Rattle.solver.proofs.Filling.{column-none, column-more}
 use Rattle.solver.proofs.Choosing.{decision-own, decision-other}
+use Rattle.solver.proofs.Within.{told-both}
 use Rattle.solver.proofs.decide.decide.Needs as need
 
 pub positions-holds : need.positions-holds
 positions-holds g c = column-none (c .args .at) _ (c .args .work .now)
-
--- what was asked of n and q, asked of the number of positions and the list's element
-seen : (f : ℕ → ℕ → Bool) (b : Bool) (n k q x : ℕ) → b ≡ f n q → n ≡ k → q ≡ x → f k x ≡ b
-seen f b n k q x h e d = cc
 
 pub loop-j-again : need.loop-j-again
 loop-j-again g c =
@@ -26,7 +23,7 @@ loop-j-again g c =
     let p = c .positions .p in
     let j = c .loop-j .j in
     let k = c .count-moves-count .ensures in
-    let s = seen (λ n. qualifies n (c .positions .work) (c .args .side) (c .args .from) (c .positions .p)) false (c .positions-n .result) (m .size) (c .move-at-q .result) (getD (m .moves p) j 0) (c .if-is-qualified .ensures tt) (c .positions-n .ensures) (c .move-at-q .ensures .is) in
+    let s = told-both (λ n. qualifies n (c .positions .work) (c .args .side) (c .args .from) (c .positions .p)) false (c .positions-n .result) (m .size) (c .move-at-q .result) (getD (m .moves p) j 0) (c .if-is-qualified .ensures tt) (c .positions-n .ensures) (c .move-at-q .ensures .is) in
     let f = first-passed (qualifies (m .size) v (c .args .side) (c .args .from) p) (m .moves p) j no-move (omega arith) s in
     let i = c .loop-j .inv .1 in
     (omega arith, (cc))
@@ -53,7 +50,7 @@ positions-again g c =
           let l = u .lowest-is in
           cc
       | need.else-j-count·then-is-qualified u ↦
-          let s = seen (λ n. qualifies n (c .positions .work) (c .args .side) (c .args .from) (c .positions .p)) true (c .positions-n .result) (m .size) (u .move-at-q .result) (getD (m .moves p) j 0) (u .if-is-qualified .ensures tt) (c .positions-n .ensures) (u .move-at-q .ensures .is) in
+          let s = told-both (λ n. qualifies n (c .positions .work) (c .args .side) (c .args .from) (c .positions .p)) true (c .positions-n .result) (m .size) (u .move-at-q .result) (getD (m .moves p) j 0) (u .if-is-qualified .ensures tt) (c .positions-n .ensures) (u .move-at-q .ensures .is) in
           let f = first-found q (m .moves p) j no-move (omega arith) s in
           let i = c .loop-j .inv .1 in
           let l = u .lowest-is in

@@ -1,13 +1,13 @@
 use native.Mathlib.Omega.{arith}
-use mathlib.Core.Path.{_≡_, sym, ap, subst, _∙_}
+use mathlib.Core.Path.{_≡_, ap, _∙_}
 use mathlib.Core.Bool.{Bool}
 use mathlib.Core.List.{List, _++_}
-use Prim.Native.Nat.{ℕ, _+_, _-_, _*_, _<_, _≤_}
-use lib.ListN.{length, getD, drop, replicate}
+use Prim.Native.Nat.{ℕ, _+_, _-_, _<_, _≤_}
+use lib.ListN.{getD, drop, replicate}
 use Rattle.std.proofs.shelf.Lists.{getD-append-left, getD-append-right, getD-replicate, getD-drop, length-replicate}
 use Rattle.arena.specs.Sets.{count, upto}
 use Rattle.solver.specs.Columns.{present}
-use Rattle.solver.specs.Solution.{stages, final}
+use Rattle.solver.specs.Solution.{final}
 use Rattle.solver.proofs.Dividing.{six-fit}
 use Rattle.solver.proofs.Choosing.{present-final}
 use Rattle.solver.proofs.plan.plan.Needs as need

@@ -1,13 +1,11 @@
 use native.Mathlib.Omega.{arith}
-use native.Mathlib.Nat.{mul-comm}
-use mathlib.Core.Path.{_≡_, sym, ap, subst, _∙_}
+use mathlib.Core.Path.{_≡_, sym, subst, _∙_}
 use mathlib.Core.List.{_∷_, _++_}
-use Prim.Native.Nat.{ℕ, _+_, _*_, _<_, _≤_}
-use lib.ListN.{length}
+use Prim.Native.Nat.{ℕ, _+_, _*_}
 use Rattle.arena.specs.Bytes.{two}
 use Rattle.arena.specs.Certificate.{record-bytes}
 use Rattle.solver.specs.Columns.{Column}
-use Rattle.solver.specs.Deciding.{decision, Decided}
+use Rattle.solver.specs.Deciding.{decision}
 use Rattle.solver.specs.Writing.{Put, Band, Records, Goals-fit, front-part}
 use Rattle.solver.proofs.Dividing.{six-fit}
 use Rattle.solver.proofs.Laid.{goals-fit, rows-front, decided, column-beyond, written}

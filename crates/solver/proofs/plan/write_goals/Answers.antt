@@ -1,7 +1,6 @@
 use native.Mathlib.Omega.{arith}
-use mathlib.Core.Path.{_≡_, sym, ap, subst}
-use Prim.Native.Nat.{ℕ, _+_, _*_, _<_, _≤_}
-use lib.ListN.{length}
+use mathlib.Core.Path.{_≡_, sym, subst}
+use Prim.Native.Nat.{_+_, _*_}
 use Rattle.arena.specs.Certificate.{record-bytes}
 use Rattle.solver.specs.Columns.{Column}
 use Rattle.solver.specs.Deciding.{decision}

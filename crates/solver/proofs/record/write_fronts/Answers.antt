@@ -1,7 +1,6 @@
 use native.Mathlib.Omega.{arith}
-use mathlib.Core.Path.{_≡_, sym, subst}
-use Prim.Native.Nat.{_+_, _*_, _<_, _≤_}
-use lib.ListN.{length}
+use mathlib.Core.Path.{_≡_, subst}
+use Prim.Native.Nat.{_+_, _*_}
 use Rattle.solver.specs.Writing.{Band, Put, front-part}
 use Rattle.solver.proofs.Puts.{rows-apart, band-none, band-more}
 use Rattle.solver.proofs.record.write_fronts.Needs as need

@@ -1,7 +1,5 @@
 use native.Mathlib.Omega.{arith}
 use mathlib.Core.Path.{_≡_, subst}
-use Prim.Native.Nat.{_+_, _*_, _<_, _≤_}
-use lib.ListN.{length}
 use Rattle.solver.specs.Writing.{Band, goal-part}
 use Rattle.solver.proofs.Puts.{rows-apart, band-none, band-more}
 use Rattle.solver.proofs.record.write_goals_of.Needs as need

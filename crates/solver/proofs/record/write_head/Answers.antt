@@ -1,7 +1,6 @@
 use mathlib.Core.Path.{refl}
 use mathlib.Core.List.{[], _∷_}
 use Rattle.arena.specs.Bytes.{two}
-use Rattle.solver.specs.Writing.{Put}
 use Rattle.solver.proofs.Puts.{put-join}
 use Rattle.solver.proofs.record.write_head.Needs as need
 

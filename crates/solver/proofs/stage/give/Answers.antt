@@ -1,7 +1,5 @@
 use native.Mathlib.Omega.{arith}
 use mathlib.Core.Path.{_≡_, subst}
-use Prim.Native.Nat.{_+_, _<_}
-use lib.ListN.{length}
 use Rattle.solver.specs.Columns.{Column}
 use Rattle.solver.specs.Memory.{given}
 use Rattle.solver.proofs.Filling.{column-none, column-more, column-pass}

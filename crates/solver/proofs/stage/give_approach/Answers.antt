@@ -1,7 +1,6 @@
 use native.Mathlib.Omega.{arith}
-use mathlib.Core.Path.{_≡_, sym, ap, subst, _∙_}
-use Prim.Native.Nat.{ℕ, _+_, _-_, _*_, _<_}
-use lib.ListN.{length, getD}
+use mathlib.Core.Path.{_≡_, ap, subst, _∙_}
+use Prim.Native.Nat.{ℕ, _+_, _-_, _*_}
 use Rattle.solver.specs.Columns.{Column, cell}
 use Rattle.solver.specs.Memory.{given}
 use Rattle.solver.proofs.Filling.{column-none, column-more, column-pass}

@@ -1,9 +1,8 @@
 use native.Mathlib.Omega.{arith}
-use mathlib.Core.Path.{_≡_, sym, ap, subst, _∙_}
+use mathlib.Core.Path.{_≡_, ap, subst, _∙_}
 use mathlib.Core.Bool.{cond, _&&_}
-use Prim.Native.Nat.{ℕ, _+_, _<_, _≤_}
+use Prim.Native.Nat.{_+_}
 use lib.Dec.{eqb}
-use lib.ListN.{length}
 use Rattle.solver.specs.Columns.{Column}
 use Rattle.solver.specs.Memory.{unreached}
 use Rattle.solver.proofs.Filling.{column-none, column-more, present-same}

@@ -1,8 +1,7 @@
 use native.Mathlib.Omega.{arith}
-use mathlib.Core.Path.{_≡_, sym, ap, subst, _∙_}
-use mathlib.Core.Bool.{cond, _&&_}
-use Prim.Native.Nat.{ℕ, _+_, _<_, _≤_}
-use lib.ListN.{length}
+use mathlib.Core.Path.{_≡_, ap, subst}
+use mathlib.Core.Bool.{cond}
+use Prim.Native.Nat.{ℕ}
 use Rattle.solver.specs.Columns.{Column, present}
 use Rattle.solver.specs.Solution.{target}
 use Rattle.solver.proofs.Filling.{column-none, column-more, present-same}

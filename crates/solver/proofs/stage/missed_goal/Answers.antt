@@ -1,11 +1,11 @@
 use native.Mathlib.Omega.{arith}
-use mathlib.Core.Path.{_≡_, sym, ap, subst, _∙_}
-use mathlib.Core.Bool.{Bool, true, false}
-use Prim.Native.Nat.{ℕ, _+_, _*_, _<_, _≤_}
-use lib.ListN.{length}
+use mathlib.Core.Path.{sym, subst, _∙_}
+use mathlib.Core.Bool.{true, false}
+use Prim.Native.Nat.{_+_, _*_, _<_}
 use Rattle.arena.specs.Sets.{any, upto}
 use Rattle.solver.specs.Memory.{unreached}
 use Rattle.solver.proofs.Searching.{Searching, column-past, column-fits, misses-is, searching-none, searching-more, searched-some, searched-none}
+use Rattle.solver.proofs.Within.{told}
 use Rattle.solver.proofs.stage.missed_goal.Needs as need
 
 pub loop-g-holds : need.loop-g-holds
@@ -33,10 +33,6 @@ misses-requires g c κs =
     let place = c .loop-g .inv .place in
     let e = c .positions-n .ensures in
     record { small = omega (arith, c .pre .small); past = omega arith; fits = omega (arith, c .pre .fits, c .loop-g .kept .work, c .reach .kept .work) }
-
--- what was asked of n, asked of the number of positions
-told : (f : ℕ → Bool) (b : Bool) (n k : ℕ) → b ≡ f n → n ≡ k → f k ≡ b
-told f b n k h e = cc
 
 pub returns-then-misses : need.returns-then-misses
 returns-then-misses g c =

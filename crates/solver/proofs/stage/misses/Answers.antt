@@ -1,7 +1,5 @@
 use native.Mathlib.Omega.{arith}
-use mathlib.Core.Path.{_≡_, sym, ap, _∙_}
-use Prim.Native.Nat.{_<_, _≤_}
-use lib.ListN.{length}
+use mathlib.Core.Path.{sym, ap, _∙_}
 use Rattle.arena.specs.Sets.{upto}
 use Rattle.arena.proofs.Basics.{length-from}
 use Rattle.solver.specs.Memory.{unreached}

@@ -1,11 +1,8 @@
 use native.Mathlib.Omega.{arith}
-use mathlib.Core.Path.{_≡_, sym, ap, subst, _∙_}
-use mathlib.Core.Bool.{Bool, cond, _&&_}
-use Prim.Native.Nat.{ℕ, _+_, _<_, _≤_}
+use mathlib.Core.Bool.{cond}
 use Rattle.std.proofs.shelf.Tests.{and-left}
-use lib.ListN.{length}
 use Rattle.solver.specs.Attractor.{rank}
-use Rattle.solver.specs.Columns.{Column, code, present, numbered}
+use Rattle.solver.specs.Columns.{code, present, numbered}
 use Rattle.solver.specs.Solution.{target}
 use Rattle.solver.proofs.Filling.{column-is, column-twice, present-same}
 use Rattle.solver.proofs.Cores.{present-outside, marked-set, mark-small}

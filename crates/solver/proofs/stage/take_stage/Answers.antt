@@ -1,8 +1,7 @@
 use native.Mathlib.Omega.{arith}
-use mathlib.Core.Path.{_≡_, sym, subst}
+use mathlib.Core.Path.{sym, subst}
 use mathlib.Core.Bool.{cond}
-use Prim.Native.Nat.{ℕ, _+_, _-_, _*_, _<_, _≤_}
-use lib.ListN.{length}
+use Prim.Native.Nat.{_-_, _*_}
 use Rattle.solver.specs.Attractor.{rank}
 use Rattle.solver.specs.Columns.{Column, Room, cell, code, present, numbered}
 use Rattle.solver.specs.Memory.{unreached, given}
