@@ -1,3 +1,4 @@
 pub mod Opened
 pub mod Front
 pub mod Solved
+pub mod Refusing
