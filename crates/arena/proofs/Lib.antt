@@ -1,4 +1,5 @@
 pub mod Basics
 pub mod Laws
 pub mod Strategies
+pub mod Loops
 pub mod Within

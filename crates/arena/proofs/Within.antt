@@ -1,5 +1,5 @@
 -- What an answer of the arena says: there is one exactly where the question is inside the ranges, and it is the meaning's.
-use mathlib.Core.Path.{_≡_, refl}
+use mathlib.Core.Path.{_≡_, refl, ap}
 use mathlib.Core.Bool.{Bool, true, false, _&&_}
 use Prim.Native.Nat.{ℕ, _<_}
 use native.Mathlib.Omega.{arith}
@@ -8,6 +8,12 @@ use lib.ListN.{length, getD}
 use Rattle.std.specs.declared.option.Option.the-variants.{Some, None}
 use Rattle.std.proofs.shelf.Tests.{and-parts, ltb-true}
 use Rattle.arena.specs.Arena.{Meaning, within, owner-answer, count-answer, move-answer}
+
+pub within-true : {A : Type 0} (b : Bool) (x : A) → b ≡ true → within b x ≡ Some x
+within-true b x e = ap (λ t. within t x) e
+
+pub within-false : {A : Type 0} (b : Bool) (x : A) → b ≡ false → within b x ≡ None
+within-false b x e = ap (λ t. within t x) e
 
 pub within-some : {A : Type 0} (b : Bool) (v x : A) → Some x ≡ within b v → (b ≡ true) × (x ≡ v)
 within-some true v x e = (refl, cc)

@@ -1,0 +1,9 @@
+pub mod Attractor
+pub mod Solution
+pub mod Certificate
+pub mod Solve
+pub mod Refused
+pub mod Columns
+pub mod Memory
+pub mod Deciding
+pub mod Writing

@@ -1,0 +1,23 @@
+mod faults;
+mod fields;
+mod marks;
+mod opened;
+mod reader;
+mod row;
+
+pub use faults::OpenFault;
+pub use faults::OpenFaultDebug;
+pub use faults::OpenFaultEq;
+pub use faults::OpenFaultPartialEq;
+pub use faults::OpenFromStrip;
+pub use faults::StripFault;
+pub use faults::StripFaultDebug;
+pub use faults::StripFaultEq;
+pub use faults::StripFaultPartialEq;
+pub use fields::inspect;
+pub use opened::OpenedStrip;
+pub use opened::StripArena;
+pub use opened::open;
+pub use reader::next_record;
+pub use row::Owner;
+pub use row::Row;
