@@ -225,7 +225,7 @@ def told(call):
 
 
 def trials(folder):
-    """Each certificate as it is, one byte short, one byte long, and with each byte one more, turned and zero."""
+    """Each certificate as it is, one byte short, one byte long, and with each byte one more, turned and zero; then a run."""
     for name in open(os.path.join(folder, "list")).read().split():
         plant = Plant(open(os.path.join(folder, name + ".strip"), "rb").read())
         bs = open(os.path.join(folder, name + ".certificate"), "rb").read()
@@ -239,6 +239,16 @@ def trials(folder):
         for i, old in enumerate(bs):
             for new in ((old + 1) % 256, 255 - old, 0):
                 say("byte %d %d" % (i, new), bs[:i] + bytes([new]) + bs[i + 1:])
+        runner = Runner(plant)
+
+        def tell(what, given, *event):
+            print(what, told(lambda: "at %d aim %d" % runner.on(given, *event)))
+
+        tell("start", bs, "start", 0)
+        tell("go by no bytes", b"", "go")
+        tell("go by another move", bs[:18] + b"\x09" + bs[19:], "go")
+        for _ in range(4):
+            tell("go", bs, "go")
 
 
 def drive(strip, certificate):

@@ -1,8 +1,9 @@
 use control::CheckFault;
+use control::RunFault;
+use control::Runner;
 use control::check;
 use std::error::AnyError;
 use std::fs;
-use strip::OpenFaultDebug;
 use strip::OpenedStrip;
 use strip::StripArena;
 use strip::open;
@@ -39,7 +40,43 @@ fn damage(rt: &LibcRuntime, arena: &OpenedStrip, certificate: &mut [u8]) -> Resu
     Ok(())
 }
 
-/// Judges one certificate of the data folder: as it is, one byte short, one byte long, and damaged byte by byte.
+/// Prints what a runner answers.
+fn tell(rt: &LibcRuntime, answer: Result<(u16, u16), RunFault>) -> Result<(), AnyError> {
+    match answer {
+        Ok((position, aim)) => println!(rt, " at {position} aim {aim}")?,
+        Err(fault) => {
+            let number = fault.number();
+            println!(rt, " refused {number}")?;
+        }
+    }
+    Ok(())
+}
+
+/// Runs from position 0: a go with no bytes, one with another move in the first field of position 0, and four that are right.
+fn steer(
+    rt: &LibcRuntime,
+    mut runner: Runner<OpenedStrip>,
+    certificate: &mut [u8],
+) -> Result<(), AnyError> {
+    print!(rt, "start")?;
+    tell(rt, runner.start(certificate, 0))?;
+    print!(rt, "go by no bytes")?;
+    tell(rt, runner.go(&[]))?;
+    if certificate.len() > 18 {
+        let old = certificate[18];
+        certificate[18] = 9;
+        print!(rt, "go by another move")?;
+        tell(rt, runner.go(certificate))?;
+        certificate[18] = old;
+    }
+    for _ in 0..4u8 {
+        print!(rt, "go")?;
+        tell(rt, runner.go(certificate))?;
+    }
+    Ok(())
+}
+
+/// Judges one certificate of the data folder: as it is, one byte short, one byte long, and damaged byte by byte; then runs it.
 fn judge(rt: &LibcRuntime, name: &str) -> Result<(), AnyError> {
     let bytes = fs::read(rt, format!(rt.alloc(), "{name}.strip")?)?;
     let mut arena = OpenedStrip::empty();
@@ -59,7 +96,8 @@ fn judge(rt: &LibcRuntime, name: &str) -> Result<(), AnyError> {
     certificate.push(0)?;
     say(rt, &arena, certificate.as_slice())?;
     let _ = certificate.pop();
-    damage(rt, &arena, certificate.as_mut_slice())
+    damage(rt, &arena, certificate.as_mut_slice())?;
+    steer(rt, Runner::new(arena), certificate.as_mut_slice())
 }
 
 /// Goes through the certificates that the list names.
