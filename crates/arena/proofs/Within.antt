@@ -7,7 +7,7 @@ use lib.Dec.{ltb}
 use lib.ListN.{length, getD}
 use Rattle.std.specs.declared.option.Option.the-variants.{Some, None}
 use Rattle.std.proofs.shelf.Tests.{and-parts, ltb-true}
-use Rattle.arena.specs.Arena.{Meaning, within, owner-answer, count-answer, move-answer}
+use Rattle.arena.specs.Arena.{Meaning, within, count-answer, move-answer}
 
 pub within-true : {A : Type 0} (b : Bool) (x : A) → b ≡ true → within b x ≡ Some x
 within-true b x e = ap (λ t. within t x) e
@@ -22,10 +22,6 @@ within-some false v x e = let z : _≡_ {A = ℕ} 0 1 = cc in absurd (omega arit
 pub within-none : {A : Type 0} (b : Bool) (v : A) → None ≡ within b v → b ≡ false
 within-none true v e = let z : _≡_ {A = ℕ} 0 1 = cc in absurd (omega arith)
 within-none false v e = refl
-
--- an owner that is answered is the position's
-pub owner-answered : (m : Meaning) (p o : ℕ) → Some o ≡ owner-answer m p → (p < m .size) × (o ≡ m .owner p)
-owner-answered m p o e = let r = within-some (ltb p (m .size)) (m .owner p) o e in (ltb-true p (m .size) (r .0), r .1)
 
 -- a number of moves that is answered is the length of the list
 pub count-answered : (m : Meaning) (p c : ℕ) → Some c ≡ count-answer m p → c ≡ length (m .moves p)

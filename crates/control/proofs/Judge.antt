@@ -5,7 +5,6 @@ use mathlib.Core.Logic.{_⊎_, inl, inr}
 use mathlib.Core.Bool.{Bool, true, false, _&&_, _||_, cond}
 use mathlib.Core.List.{List, [], _∷_}
 use Prim.Native.Nat.{ℕ, zero, suc, _+_, _-_, _<_, _≤_}
-use native.Mathlib.Numerals.{add-one}
 use native.Mathlib.Omega.{arith}
 use lib.Dec.{eqb, ltb}
 use Rattle.std.specs.declared.option.Option.the-variants.{Some, None}
@@ -17,6 +16,7 @@ use Rattle.arena.specs.Certificate.{side-of, goal-of, stage-of, approach-of, mo
 use Rattle.control.specs.Accept.{fit, judged, given, head-right, end-right, walk, first-failing, failing, clauses, same, good-step-of, nearer-of, ranked-for, steered-for, carried-for}
 use Rattle.control.specs.Promise.{Accepted}
 use Rattle.arena.proofs.Basics.{In, in-head, in-tail, Passed, asked, all-true, all-upto, not-refused, require-accepted, sized-accepted}
+use Rattle.arena.proofs.Loops.{from-step}
 use Rattle.control.proofs.Table.{Good, Holds, Near, Serves}
 
 same-says : (x y : Bool) → same x y ≡ true → x ≡ true → y ≡ true
@@ -57,10 +57,7 @@ module _ (m : Meaning) (bs : List ℕ) where
 
   -- a loop over the positions: it stops at a clause that fails, goes on where none does, and ends with the count
   walk-here : (p : ℕ) → p < m .size → walked-from p ≡ failing p (first-failing 3 (clauses m bs p)) (walked-from (p + 1))
-  walk-here p h =
-      let e : m .size - p ≡ suc (m .size - (p + 1)) = omega arith in
-      ap (λ c. walk m bs (from p c) (accepted (given m bs))) e
-      ∙ ap (λ q. failing p (first-failing 3 (clauses m bs p)) (walk m bs (from q (m .size - (p + 1))) (accepted (given m bs)))) (sym (add-one p))
+  walk-here p h = ap (λ ps. walk m bs ps (accepted (given m bs))) (from-step (m .size) p h)
 
   pub walk-stops : (p i : ℕ) → p < m .size → walked-from p ≡ walked → Some i ≡ first-failing 3 (clauses m bs p) → refused 14 (i ∷ p ∷ []) ≡ walked
   walk-stops p i h left e = ap (λ o. failing p o (walked-from (p + 1))) e ∙ sym (walk-here p h) ∙ left

@@ -7,6 +7,11 @@ use Rattle.arena.specs.Refusals.{Outcome, accepted, refused}
 use Rattle.control.specs.declared.verdict.CheckFault.{CheckFault}
 use Rattle.control.specs.declared.verdict.CheckFault.the-variants.{Positions, Goals, Length, Clause}
 
+-- the number by which a call is refused; no refusal has number 0
+abbrev pub cause : {A : Type 0} → Outcome A → ℕ
+cause (accepted value) = 0
+cause (refused n names) = n
+
 -- why check refuses
 abbrev pub check-refusal : CheckFault → Outcome ℕ
 check-refusal Positions = refused 1 []

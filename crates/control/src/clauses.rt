@@ -60,7 +60,7 @@ fn is_mark(bytes: &[u8], i: usize, second: u8) -> bool
 }
 
 /// Clause 1: the head is right for the arena.
-pub fn is_head_right<A: Arena>(arena: &A, bytes: &[u8]) -> bool
+pub(crate) fn is_head_right<A: Arena>(arena: &A, bytes: &[u8]) -> bool
     ensures { λ r. ⌜ r ≡ head-right (meaning (now (arena .entry))) (now (bytes .entry)) ⌝ }
 {
     if !is_mark(bytes, 0, 0x48) {
@@ -73,7 +73,7 @@ pub fn is_head_right<A: Arena>(arena: &A, bytes: &[u8]) -> bool
 }
 
 /// Clause 2: the end is right.
-pub fn is_end_right<A: Arena>(arena: &A, bytes: &[u8]) -> bool
+pub(crate) fn is_end_right<A: Arena>(arena: &A, bytes: &[u8]) -> bool
     ensures { λ r. ⌜ r ≡ end-right (meaning (now (arena .entry))) (now (bytes .entry)) ⌝ }
 {
     let n = arena.positions();
@@ -384,7 +384,7 @@ fn clause_9<A: Arena>(arena: &A, bytes: &[u8], p: u16) -> bool
 }
 
 /// The number of the first clause from the third on that fails at position `p`.
-pub fn first_failing_at<A: Arena>(arena: &A, bytes: &[u8], p: u16) -> Option<u8>
+pub(crate) fn first_failing_at<A: Arena>(arena: &A, bytes: &[u8], p: u16) -> Option<u8>
     requires { ⌜ p < meaning (now arena) .size ⌝ }
     ensures { λ r. ⌜ r ≡ first-failing 3 (clauses (meaning (now (arena .entry))) (now (bytes .entry)) p) ⌝ }
 {

@@ -7,21 +7,21 @@ use arena::Arena;
 use arena::certificate_bytes;
 
 /// Whether `x` is one of the numbers from `low` to `high`.
-pub fn is_between(low: u16, high: u16, x: u16) -> bool
+pub(crate) fn is_between(low: u16, high: u16, x: u16) -> bool
     ensures { λ r. ⌜ r ≡ between low high x ⌝ }
 {
     low <= x && x <= high
 }
 
 /// Whether the bytes have the length of a certificate of the arena.
-pub fn fits<A: Arena>(arena: &A, bytes: &[u8]) -> bool
+pub(crate) fn fits<A: Arena>(arena: &A, bytes: &[u8]) -> bool
     ensures { λ r. ⌜ r ≡ fit (meaning (now (arena .entry))) (now (bytes .entry)) ⌝ }
 {
     bytes.len() == certificate_bytes(arena)
 }
 
 /// Whether position `p` belongs to `side`.
-pub fn is_owned<A: Arena>(arena: &A, p: u16, side: u16) -> bool
+pub(crate) fn is_owned<A: Arena>(arena: &A, p: u16, side: u16) -> bool
     requires { ⌜ p < meaning (now arena) .size ⌝ }
     ensures { λ r. ⌜ r ≡ eqb (meaning (now (arena .entry)) .owner p) side ⌝ }
 {
@@ -32,7 +32,7 @@ pub fn is_owned<A: Arena>(arena: &A, p: u16, side: u16) -> bool
 }
 
 /// Whether position `p` is marked for goal `g`.
-pub fn is_marked<A: Arena>(arena: &A, p: u16, g: u16) -> bool
+pub(crate) fn is_marked<A: Arena>(arena: &A, p: u16, g: u16) -> bool
     requires { ⌜ p < meaning (now arena) .size ⌝ ∗ ⌜ g < meaning (now arena) .goals ⌝ }
     ensures { λ r. ⌜ r ≡ meaning (now (arena .entry)) .marked p g ⌝ }
 {
@@ -43,7 +43,7 @@ pub fn is_marked<A: Arena>(arena: &A, p: u16, g: u16) -> bool
 }
 
 /// Whether `q` is one of the moves of position `p`.
-pub fn is_move<A: Arena>(arena: &A, p: u16, q: u16) -> bool
+pub(crate) fn is_move<A: Arena>(arena: &A, p: u16, q: u16) -> bool
     requires { ⌜ p < meaning (now arena) .size ⌝ }
     ensures { λ r. ⌜ r ≡ elem q (meaning (now (arena .entry)) .moves p) ⌝ }
 {

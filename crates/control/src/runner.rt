@@ -1,5 +1,6 @@
 ghost use Prim.Native.Nat.{ℕ, _<_};
-ghost use Rattle.control.specs.Calls.{Called, call-of, new-runner, place-of, reply, whose};
+ghost use Rattle.control.specs.Answers.{cause};
+ghost use Rattle.control.specs.Calls.{Called, call-of, new-runner, place-of, reply, run-refusal, whose};
 ghost use Rattle.control.specs.Run.{answer, go, moved, next-aim, start, turn};
 ghost use mathlib.Core.Bool.{true};
 ghost use mathlib.Core.Path.{_≡_};
@@ -38,6 +39,24 @@ pub enum RunFault {
     NotNow,
     /// The certificate's field is no move.
     Field,
+}
+
+impl RunFault {
+    /// The number in the table of refusals.
+    pub fn number(self) -> u8
+        ensures { λ r. ⌜ r ≡ cause (run-refusal self) ⌝ }
+    {
+        match self {
+            RunFault::Positions => 1,
+            RunFault::Goals => 2,
+            RunFault::Length => 3,
+            RunFault::Position => 4,
+            RunFault::Side => 15,
+            RunFault::Move => 16,
+            RunFault::NotNow => 17,
+            RunFault::Field => 18,
+        }
+    }
 }
 
 /// Whose turn it is.

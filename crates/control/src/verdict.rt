@@ -2,7 +2,7 @@ ghost use Prim.Native.Nat.{ℕ, _<_};
 ghost use Rattle.arena.specs.Refusals.{accepted};
 ghost use Rattle.arena.specs.Sets.{upto};
 ghost use Rattle.control.specs.Accept.{checked, given, walk};
-ghost use Rattle.control.specs.Answers.{verdict};
+ghost use Rattle.control.specs.Answers.{cause, check-refusal, verdict};
 ghost use Rattle.control.specs.Promise.{Promise};
 ghost use Rattle.std.specs.declared.result.Result.the-variants.{Ok};
 ghost use mathlib.Core.Path.{_≡_};
@@ -25,6 +25,20 @@ pub enum CheckFault {
     Length,
     /// A clause fails at a position.
     Clause { clause: u8, position: u16 },
+}
+
+impl CheckFault {
+    /// The number in the table of refusals.
+    pub fn number(self) -> u8
+        ensures { λ r. ⌜ r ≡ cause (check-refusal self) ⌝ }
+    {
+        match self {
+            CheckFault::Positions => 1,
+            CheckFault::Goals => 2,
+            CheckFault::Length => 3,
+            CheckFault::Clause { .. } => 14,
+        }
+    }
 }
 
 /// The number of records with side 0.
