@@ -1,1 +1,4 @@
 pub mod Keeping
+pub mod Growing
+pub mod Pasting
+pub mod Trips

@@ -1,4 +1,5 @@
 pub mod Sheets
 pub mod Slots
+pub mod Laws
 pub mod SheetModel
 pub mod Refusals

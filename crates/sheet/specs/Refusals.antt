@@ -14,6 +14,12 @@ use Rattle.sheet.specs.declared.faults.PutFault.{PutFault}
 use Rattle.sheet.specs.declared.faults.PutFault.the-variants as put
 use Rattle.sheet.specs.declared.faults.LetGoFault.{LetGoFault}
 use Rattle.sheet.specs.declared.faults.LetGoFault.the-variants as let-go
+use Rattle.sheet.specs.declared.faults.CloseFault.{CloseFault}
+use Rattle.sheet.specs.declared.faults.CloseFault.the-variants as close
+use Rattle.sheet.specs.declared.faults.LoadFault.{LoadFault}
+use Rattle.sheet.specs.declared.faults.LoadFault.the-variants as load
+use Rattle.sheet.specs.declared.faults.WriteFault.{WriteFault}
+use Rattle.sheet.specs.declared.faults.WriteFault.the-variants as write
 
 -- a slip that is to be spent
 abbrev pub unspent : ℕ → ℕ → Slip
@@ -53,3 +59,27 @@ let-go-refusal let-go.NotOut = refused 7 []
 abbrev pub let-go-outcome : Result (Unit {0}) LetGoFault → Outcome Done
 let-go-outcome (Ok _) = accepted done
 let-go-outcome (Err f) = let-go-refusal f
+
+abbrev pub close-refusal : {A : Type 0} → CloseFault → Outcome A
+close-refusal (close.RowOut position) = refused 10 (position ∷ [])
+close-refusal (close.NoMoves position) = refused 11 (position ∷ [])
+
+abbrev pub close-outcome : Result (Unit {0}) CloseFault → Outcome Done
+close-outcome (Ok _) = accepted done
+close-outcome (Err f) = close-refusal f
+
+-- a strip's fault is there whole, and names its place
+abbrev pub load-refusal : {A : Type 0} → LoadFault → Outcome A
+load-refusal (load.RowOut position) = refused 10 (position ∷ [])
+load-refusal (load.Strip f) = refused 13 (f .place ∷ [])
+
+abbrev pub load-outcome : Result (Unit {0}) LoadFault → Outcome Done
+load-outcome (Ok _) = accepted done
+load-outcome (Err f) = load-refusal f
+
+abbrev pub write-refusal : {A : Type 0} → WriteFault → Outcome A
+write-refusal write.Short = refused 3 []
+
+abbrev pub write-outcome : Result (Unit {0}) WriteFault → Outcome Done
+write-outcome (Ok _) = accepted done
+write-outcome (Err f) = write-refusal f

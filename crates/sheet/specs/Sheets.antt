@@ -1,12 +1,14 @@
 -- A sheet by its calls: what each answers, and what it leaves. Read after the rows and the strip; a succession of calls
 -- comes next. A seat is one of those who draw on the sheet. A row that a seat has taken is out to it; the slip that it
 -- then holds tells the seat and the position, so put and let go name these two.
+use mathlib.Core.Path.{_≡_}
 use mathlib.Core.Bool.{Bool, not, _&&_}
 use mathlib.Core.List.{List, _++_, map}
 use Prim.Native.Nat.{ℕ, _^_}
 use lib.Dec.{eqb, ltb, leb}
-use lib.ListN.{length, getD, set, replicate, drop}
+use lib.ListN.{length, getD, set, replicate, take, drop}
 use Rattle.std.specs.declared.option.Option.{Option}
+use Rattle.std.specs.declared.option.Option.the-variants.{None}
 use Rattle.arena.specs.Refusals.{Outcome, accepted, refused, Done, done, require, require-none, after}
 use Rattle.arena.specs.Arena.{Meaning}
 use Rattle.arena.specs.Sets.{all, between, least, count, upto}
@@ -151,3 +153,15 @@ module _ (s : Sheet) where
   -- the bytes after it: the strip, and then as they were; refused, all as they were
   abbrev pub write-bytes : List ℕ → List ℕ
   write-bytes bytes = after (write-answer bytes) (strip-of ++ drop (strip-bytes (s .size)) bytes) bytes
+
+-- What write leaves is read back: loaded into any sheet with no row out, the strip at the front of these bytes is accepted
+-- and gives the rows that it was written from.
+abbrev pub Reads-back : Sheet → List ℕ → Type 0
+Reads-back s bytes =
+    let written : List ℕ = take (strip-bytes (s .size)) bytes in
+    (t : Sheet) → lowest-out t ≡ None →
+    (load-answer t written ≡ accepted done) × (load-after t written ≡ all-in (s .size) (s .goals) (s .rows))
+
+-- What load accepts is written back: the strip is the one that the rows then held would be written as.
+abbrev pub Writes-back : Sheet → List ℕ → Type 0
+Writes-back s bs = strip-of s ≡ bs

@@ -4,8 +4,9 @@ use mathlib.Core.List.{List, map}
 use Prim.Native.Nat.{ℕ, _^_, _<_}
 use lib.Dec.{eqb}
 use lib.ListN.{length, getD}
+use Rattle.arena.specs.Arena.{Meaning}
 use Rattle.row.specs.Rows as rows
-use Rattle.row.specs.Rows.{empty}
+use Rattle.row.specs.Rows.{empty, meaning-of}
 use Rattle.row.specs.RowModel.{row-of}
 use Rattle.sheet.specs.declared.slot.Slot.{Slot}
 
@@ -32,3 +33,15 @@ Below n drawn = (p j : ℕ) → p < n → j < length (row-at drawn p .moves) →
 -- every mark of n rows is for one of k goals
 abbrev pub Marked : ℕ → ℕ → List rows.Row → Type 0
 Marked n k drawn = (p : ℕ) → p < n → row-at drawn p .marks < 2 ^ k
+
+-- every one of n rows has a move
+abbrev pub Moved : ℕ → List rows.Row → Type 0
+Moved n drawn = (p : ℕ) → p < n → 0 < length (row-at drawn p .moves)
+
+-- the row of position p has no moves
+abbrev pub is-empty : List rows.Row → ℕ → Bool
+is-empty drawn p = eqb (length (row-at drawn p .moves)) 0
+
+-- the arena that rows in memory draw for k goals
+abbrev pub arena-drawn : ℕ → List Slot → Meaning
+arena-drawn k slots = meaning-of (length slots) k (row-at (rows-of slots))

@@ -1,3 +1,10 @@
+ghost use Rattle.sheet.specs.declared.faults.LoadFault.the-variants.{Strip};
+ghost use mathlib.Core.Path.{_≡_};
+use strip::StripFault;
+use strip::StripFaultDebug;
+use strip::StripFaultEq;
+use strip::StripFaultPartialEq;
+
 /// Why a sheet does not get another shape.
 #[derive(Clone, Copy, Debug, PartialEq, Eq)]
 pub enum ShapeFault {
@@ -36,4 +43,37 @@ pub enum PutFault {
 pub enum LetGoFault {
     /// The row is not out to the slip's seat.
     NotOut,
+}
+
+/// Why a sheet does not close.
+#[derive(Clone, Copy, Debug, PartialEq, Eq)]
+pub enum CloseFault {
+    /// This row is the lowest that is out.
+    RowOut(u16),
+    /// This row is the lowest without moves.
+    NoMoves(u16),
+}
+
+/// Why a sheet is not loaded.
+#[derive(Clone, Copy, Debug, PartialEq, Eq)]
+pub enum LoadFault {
+    /// This row is the lowest that is out.
+    RowOut(u16),
+    /// The strip is faulty.
+    Strip(StripFault),
+}
+
+pub impl From<StripFault> for LoadFault as LoadFromStrip {
+    ghost converts = { λ e r. r ≡ Strip e };
+
+    fn from(e: StripFault) -> LoadFault {
+        LoadFault::Strip(e)
+    }
+}
+
+/// Why a strip is not written.
+#[derive(Clone, Copy, Debug, PartialEq, Eq)]
+pub enum WriteFault {
+    /// The memory is shorter than the strip.
+    Short,
 }

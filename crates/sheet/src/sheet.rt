@@ -3,8 +3,10 @@ ghost use Rattle.sheet.specs.Slots.{Below, Marked, rows-of};
 ghost use Rattle.std.specs.Of.Vec.{vec-cap, vec-items, vec-len};
 use crate::slot::Slot;
 
+mod close;
 mod edits;
 mod methods;
+mod strips;
 
 /// A sheet: the rows of a plant while seats draw it, with the seat that each row is out to. It has memory for 512 rows
 /// from the start and never asks for more.

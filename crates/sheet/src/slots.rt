@@ -2,7 +2,7 @@ ghost use Prim.Native.Nat.{ℕ, _<_, _≤_};
 ghost use Rattle.arena.specs.Sets.{all, count, least, upto};
 ghost use Rattle.row.specs.RowModel.{row-of};
 ghost use Rattle.row.specs.Rows.{empty};
-ghost use Rattle.sheet.specs.Slots.{is-lent, row-at, rows-of, seats-of};
+ghost use Rattle.sheet.specs.Slots.{is-empty, is-lent, row-at, rows-of, seats-of};
 ghost use Rattle.std.specs.Of.Vec.{vec-cap, vec-items, vec-len};
 ghost use lib.Dec.{ltb};
 ghost use lib.ListN.{getD, length, replicate, set};
@@ -34,6 +34,20 @@ pub(crate) fn first_out(slots: &[Slot]) -> Option<u16>
     let n = slots.len() as u16;
     for p in 0..n {
         if seat_at(slots, p) != 0 {
+            return Some(p);
+        }
+    }
+    None
+}
+
+/// The lowest row without moves.
+pub(crate) fn first_bare(slots: &[Slot]) -> Option<u16>
+    requires { ⌜ length (now slots) ≤ 512 ⌝ }
+    ensures { λ r. ⌜ r ≡ least (is-empty (rows-of (now (slots .entry)))) (length (now (slots .entry))) ⌝ }
+{
+    let n = slots.len() as u16;
+    for p in 0..n {
+        if row_of(slots, p).moves().len() == 0 {
             return Some(p);
         }
     }

@@ -4,3 +4,4 @@ pub mod InRecords
 pub mod Strips
 pub mod Written
 pub mod ReadBack
+pub mod Cut

@@ -188,6 +188,10 @@ module _ (bs : List ℕ) (n k o : ℕ) where
     ),
   )
 
+  -- a record whose fields are all right, and all there
+  pub sound-record : o + 38 ≤ length bs → Row-right bs n k o → first-wrong bs (record-fields bs n k o) ≡ None
+  sound-record room h = right-none bs (record-fields bs n k o) (right-row room h)
+
 -- what two searches found, one after the other, is nothing only if neither found anything
 pub none-of-two : (x y : Option ℕ) → or-else x y ≡ None → (x ≡ None) × (y ≡ None)
 none-of-two None y e = (refl, e)
