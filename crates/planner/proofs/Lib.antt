@@ -1,4 +1,5 @@
 pub mod Opened
+pub mod Closed
 pub mod Front
 pub mod Solved
 pub mod Refusing

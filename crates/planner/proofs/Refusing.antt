@@ -1,40 +1,32 @@
--- A refusal of open handed on through solve of a strip: there is no arena, and both memories stay.
-use mathlib.Core.Path.{_≡_, refl, sym, ap, _∙_}
-use mathlib.Core.List.{List}
+-- A refusal of open or close handed on through solve: there is no arena, and both memories stay.
+use mathlib.Core.Path.{_≡_, refl}
+use mathlib.Core.List.{List, [], _∷_}
 use Prim.Native.Nat.{ℕ}
 use native.Mathlib.Omega.{arith}
 use Rattle.arena.specs.Refusals.{Outcome, accepted, refused, done, told}
 use Rattle.arena.specs.Arena.{Meaning}
+use Rattle.sheet.specs.Refusals.{close-refusal}
+use Rattle.sheet.specs.declared.faults.CloseFault.{CloseFault}
+use Rattle.sheet.specs.declared.faults.CloseFault.the-variants as close
 use Rattle.strip.specs.Refusals.{open-refusal}
 use Rattle.strip.specs.declared.faults.OpenFault.{OpenFault}
-use Rattle.strip.specs.declared.faults.OpenFault.the-variants.{Strip, NoMoves}
+use Rattle.strip.specs.declared.faults.OpenFault.the-variants as open′
 use Rattle.planner.specs.Solving.{solve-answered, answered-bytes, answered-work}
 
--- what was told of an answer, with nothing of the arena, is the answer where it is a refusal
-pub untold : (f : OpenFault) (o : Outcome Meaning) → open-refusal f ≡ told (λ _. done) o → o ≡ open-refusal f
-untold (Strip fault) (accepted m) e = let z : _≡_ {A = ℕ} 0 1 = cc in absurd (omega arith)
-untold (Strip fault) (refused n names) e = cc
-untold (NoMoves p) (accepted m) e = let z : _≡_ {A = ℕ} 0 1 = cc in absurd (omega arith)
-untold (NoMoves p) (refused n names) e = cc
+-- what solving answers and leaves where there is no arena
+pub record Stays (o : Outcome Meaning) (bytes work : List ℕ) (refusal : Outcome (ℕ × ℕ)) : Type 0 where
+  pub answer : refusal ≡ solve-answered o bytes work
+  pub bytes-stay : bytes ≡ answered-bytes o bytes work
+  pub work-stays : work ≡ answered-work o bytes work
 
-module _ (o : Outcome Meaning) (f : OpenFault) (e : o ≡ open-refusal f) (bytes work : List ℕ) where
-  pub refused-answer : solve-answered o bytes work ≡ open-refusal f
-  refused-answer = ap (λ x. solve-answered x bytes work) e ∙ go f
-    where
-      go : (f : OpenFault) → solve-answered (open-refusal f) bytes work ≡ open-refusal f
-      go (Strip fault) = refl
-      go (NoMoves p) = refl
+stays : (o : Outcome Meaning) (bytes work : List ℕ) (n : ℕ) (names : List ℕ) → refused n names ≡ told (λ _. done) o → Stays o bytes work (refused n names)
+stays (accepted m) bytes work n names e = let z : _≡_ {A = ℕ} 0 1 = cc in absurd (omega arith)
+stays (refused n′ names′) bytes work n names e = record { answer = cc; bytes-stay = refl; work-stays = refl }
 
-  pub refused-bytes : answered-bytes o bytes work ≡ bytes
-  refused-bytes = ap (λ x. answered-bytes x bytes work) e ∙ go f
-    where
-      go : (f : OpenFault) → answered-bytes (open-refusal f) bytes work ≡ bytes
-      go (Strip fault) = refl
-      go (NoMoves p) = refl
+pub open-stays : (o : Outcome Meaning) (bytes work : List ℕ) (f : OpenFault) → open-refusal f ≡ told (λ _. done) o → Stays o bytes work (open-refusal f)
+open-stays o bytes work (open′.Strip fault) e = stays o bytes work 13 (fault .place ∷ []) e
+open-stays o bytes work (open′.NoMoves p) e = stays o bytes work 11 (p ∷ []) e
 
-  pub refused-work : answered-work o bytes work ≡ work
-  refused-work = ap (λ x. answered-work x bytes work) e ∙ go f
-    where
-      go : (f : OpenFault) → answered-work (open-refusal f) bytes work ≡ work
-      go (Strip fault) = refl
-      go (NoMoves p) = refl
+pub close-stays : (o : Outcome Meaning) (bytes work : List ℕ) (f : CloseFault) → close-refusal f ≡ told (λ _. done) o → Stays o bytes work (close-refusal f)
+close-stays o bytes work (close.RowOut p) e = stays o bytes work 10 (p ∷ []) e
+close-stays o bytes work (close.NoMoves p) e = stays o bytes work 11 (p ∷ []) e

@@ -1,5 +1,6 @@
 mod faults;
 mod program;
+mod sheets;
 mod solving;
 mod strips;
 
@@ -8,7 +9,11 @@ pub use faults::PlanFromAlloc;
 pub use faults::PlanFromOpen;
 pub use program::answer;
 pub use program::describe;
-pub use solving::SolveFromOpen;
-pub use solving::SolveFromSolve;
+pub use sheets::solve_sheet;
+pub use solving::SheetSolveFault;
+pub use solving::SheetSolveFromClose;
+pub use solving::SheetSolveFromSolve;
 pub use solving::StripSolveFault;
+pub use solving::StripSolveFromOpen;
+pub use solving::StripSolveFromSolve;
 pub use strips::solve_strip;

@@ -5,21 +5,18 @@ use Rattle.solver.specs.Solve.{solve, bytes-after, work-after}
 use Rattle.strip.specs.Strip.{drawn, open-answer}
 use Rattle.planner.specs.Solving.{answered-bytes, answered-work, solve-answered, strip-solve-outcome}
 use Rattle.planner.proofs.Opened.{opened}
-use Rattle.planner.proofs.Refusing.{untold, refused-answer, refused-bytes, refused-work}
+use Rattle.planner.proofs.Refusing.{open-stays}
 use Rattle.planner.proofs.strips.solve_strip.Needs as need
 
 pub returns-in-Break-open : need.returns-in-Break-open
 returns-in-Break-open c =
-    let bs = c .args .strip .now in
-    let b = c .args .certificate .now in
-    let w = c .args .work .now in
     let f = c .in-Break-open .field-0 .0 in
-    let e = untold f (open-answer bs) (c .in-Break-open .ensures tt .answer) in
+    let r = open-stays (open-answer (c .args .strip .now)) (c .args .certificate .now) (c .args .work .now) f (c .in-Break-open .ensures tt .answer) in
     let p = err-from-errBy (c .from-residual .result) (c .from-residual .ensures .1) in
     record {
-      answer = ap strip-solve-outcome (p .1) ∙ ap (λ x. strip-solve-outcome (Err x)) (p .2) ∙ sym (refused-answer (open-answer bs) f e b w);
-      bytes = sym (refused-bytes (open-answer bs) f e b w);
-      numbers = sym (refused-work (open-answer bs) f e b w);
+      answer = ap strip-solve-outcome (p .1) ∙ ap (λ x. strip-solve-outcome (Err x)) (p .2) ∙ r .answer;
+      bytes = r .bytes-stay;
+      numbers = r .work-stays;
     }
 
 pub returns-in-Break-solve : need.returns-in-Break-solve
