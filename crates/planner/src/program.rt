@@ -1,6 +1,7 @@
 ghost use Prim.Native.Nat.{ℕ, _*_, _+_, _<_, _≤_};
 ghost use Rattle.arena.specs.Certificate.{certificate-bytes};
 ghost use Rattle.planner.specs.Answer.{Rest-unread, Told, answer-text, planned-text, program-text};
+ghost use Rattle.planner.specs.Promise.{Promise};
 ghost use Rattle.solver.specs.Solve.{work-numbers};
 ghost use Rattle.std.specs.Of.String.{string-bytes};
 ghost use Rattle.std.specs.Results.{Cases};
@@ -94,6 +95,7 @@ fn told(heap: Global, bytes: &[u8]) -> Result<String, AllocError>
 pub fn answer(heap: Global, bytes: &[u8]) -> Result<String, AllocError>
     ensures text { λ r. ⌜ made r (λ s. string-bytes s ≡ program-text (now (bytes .entry))) ⌝ }
     ensures rest { λ r. ⌜ Rest-unread (now (bytes .entry)) ⌝ }
+    ensures promise { λ r. ⌜ Promise ⌝ }
 {
     told(heap, bytes)
 }

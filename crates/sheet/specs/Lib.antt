@@ -3,3 +3,4 @@ pub mod Slots
 pub mod Laws
 pub mod SheetModel
 pub mod Refusals
+pub mod Succession
