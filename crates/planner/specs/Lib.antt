@@ -1,3 +1,4 @@
 pub mod Answer
 pub mod Solving
 pub mod Promise
+pub mod Plants

@@ -1,4 +1,5 @@
 mod faults;
+mod plants;
 mod program;
 mod sheets;
 mod solving;
@@ -7,6 +8,7 @@ mod strips;
 pub use faults::PlanFault;
 pub use faults::PlanFromAlloc;
 pub use faults::PlanFromOpen;
+pub use plants::plants_stand;
 pub use program::answer;
 pub use program::describe;
 pub use sheets::solve_sheet;
