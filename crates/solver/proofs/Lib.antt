@@ -5,6 +5,7 @@ pub mod Records
 pub mod Bytes
 mod Scans
 mod Within
+mod Shortcuts
 mod Filling
 mod Rounds
 mod Ranks

@@ -1,5 +1,6 @@
 -- Bytes written one after another: two lists side by side are one, and a record's part leaves the other records alone.
 use mathlib.Core.Path.{_≡_, refl, sym, ap, subst, _∙_}
+use mathlib.Core.Bool.{Bool, true, false, cond}
 use mathlib.Core.Logic.{_⊎_, inl, inr}
 use mathlib.Core.List.{List, [], _∷_, _++_}
 use Prim.Native.Nat.{ℕ, suc, _+_, _-_, _*_, _<_, _≤_}
@@ -7,7 +8,7 @@ use native.Mathlib.Omega.{arith}
 use native.Mathlib.Nat.{suc-mul, mul-le-mul-right}
 use lib.ListN.{length, getD, set}
 use Rattle.std.proofs.shelf.Lists.{getD-append-left, getD-append-right, length-set}
-use Rattle.std.proofs.shelf.Tests.{cases-lt, cases-order}
+use Rattle.std.proofs.shelf.Tests.{cases-lt, cases-order, cond-true, cond-false}
 use Rattle.solver.specs.Columns.{Column}
 use Rattle.solver.specs.Writing.{Put, Band}
 use Rattle.solver.proofs.Filling.{column-none, column-more}
@@ -32,6 +33,13 @@ put-join a d at xs ys b c e l p q = record {
     go k h (inr s) =
         let i : at + k ≡ at + a + (k - a) = omega arith in
         ap (λ j. getD e j 0) i ∙ q .here (k - a) (omega arith) ∙ sym (getD-append-right xs ys a k 0 l s)
+
+-- what is written on either side of a test
+pub put-true : (len at : ℕ) (t : Bool) (xs ys b c : List ℕ) → t ≡ true → Put len at xs b c → Put len at (cond t xs ys) b c
+put-true len at t xs ys b c e p = subst (λ zs. Put len at zs b c) (sym (cond-true t xs ys e)) p
+
+pub put-false : (len at : ℕ) (t : Bool) (xs ys b c : List ℕ) → t ≡ false → Put len at ys b c → Put len at (cond t xs ys) b c
+put-false len at t xs ys b c e p = subst (λ zs. Put len at zs b c) (sym (cond-false t xs ys e)) p
 
 -- a record ends where the next begins, or before
 pub rows-apart : (p q w : ℕ) → p < q → p * w + w ≤ q * w

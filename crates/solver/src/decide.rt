@@ -51,7 +51,10 @@ fn is_good_step(work: &[u16], n: u16, p: u16, q: u16) -> bool
         return true;
     }
     let goal = n as usize;
-    if there != here || work[goal + q as usize] != work[goal + p as usize] {
+    if there != here {
+        return false;
+    }
+    if work[goal + q as usize] != work[goal + p as usize] {
         return false;
     }
     let approach = 2 * n as usize;

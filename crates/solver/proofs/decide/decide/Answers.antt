@@ -1,7 +1,7 @@
 use native.Mathlib.Omega.{arith}
 use mathlib.Core.Path.{_≡_, sym, subst}
 use mathlib.Core.Bool.{true, false}
-use Prim.Native.Nat.{_-_, _<_}
+use Prim.Native.Nat.{_<_}
 use lib.ListN.{getD}
 use Rattle.arena.specs.Certificate.{no-move}
 use Rattle.arena.specs.Sets.{first}

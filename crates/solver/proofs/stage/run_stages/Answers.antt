@@ -1,6 +1,6 @@
 use native.Mathlib.Omega.{arith}
 use mathlib.Core.Path.{sym, subst, _∙_}
-use Prim.Native.Nat.{_+_, _-_, _*_, _≤_}
+use Prim.Native.Nat.{_+_, _*_, _≤_}
 use Rattle.solver.specs.Columns.{Room, present}
 use Rattle.solver.specs.Memory.{Ranks}
 use Rattle.solver.proofs.Stages.{ended}
