@@ -1,4 +1,4 @@
-ghost use Rattle.sheet.specs.declared.faults.LoadFault.the-variants.{Strip};
+ghost use Rattle.sheet_faults.specs.declared.LoadFault.the-variants.{Strip};
 ghost use mathlib.Core.Path.{_≡_};
 use strip::StripFault;
 use strip::StripFaultDebug;
