@@ -4,13 +4,13 @@ use Prim.Native.Nat.{ℕ}
 use Rattle.std.specs.declared.result.Result.{Result}
 use Rattle.std.specs.declared.result.Result.the-variants.{Ok, Err}
 use Rattle.arena.specs.Refusals.{Outcome, accepted, Done, done}
-use Rattle.sheet_faults.specs.declared.ShapeFault.{ShapeFault}
-use Rattle.sheet_faults.specs.declared.TakeFault.{TakeFault}
-use Rattle.sheet_faults.specs.declared.PutFault.{PutFault}
-use Rattle.sheet_faults.specs.declared.LetGoFault.{LetGoFault}
-use Rattle.sheet_faults.specs.declared.CloseFault.{CloseFault}
-use Rattle.sheet_faults.specs.declared.LoadFault.{LoadFault}
-use Rattle.sheet_faults.specs.declared.WriteFault.{WriteFault}
+use Rattle.sheet_faults.specs.declared.faults.ShapeFault.{ShapeFault}
+use Rattle.sheet_faults.specs.declared.faults.TakeFault.{TakeFault}
+use Rattle.sheet_faults.specs.declared.faults.PutFault.{PutFault}
+use Rattle.sheet_faults.specs.declared.faults.LetGoFault.{LetGoFault}
+use Rattle.sheet_faults.specs.declared.faults.CloseFault.{CloseFault}
+use Rattle.sheet_faults.specs.declared.faults.LoadFault.{LoadFault}
+use Rattle.sheet_faults.specs.declared.faults.WriteFault.{WriteFault}
 use Rattle.sheet_faults.specs.Refusals.{shape-refusal, take-refusal, put-refusal, let-go-refusal, close-refusal, load-refusal, write-refusal}
 use Rattle.sheet.specs.declared.slip.Slip.{Slip}
 

@@ -1,20 +1,25 @@
 -- The refusals of the sheet's calls: for each case its number and the values that it names.
-use mathlib.Core.List.{[], _∷_}
-use Rattle.arena.specs.Refusals.{Outcome, refused}
-use Rattle.sheet_faults.specs.declared.ShapeFault.{ShapeFault}
-use Rattle.sheet_faults.specs.declared.ShapeFault.the-variants as shape
-use Rattle.sheet_faults.specs.declared.TakeFault.{TakeFault}
-use Rattle.sheet_faults.specs.declared.TakeFault.the-variants as take
-use Rattle.sheet_faults.specs.declared.PutFault.{PutFault}
-use Rattle.sheet_faults.specs.declared.PutFault.the-variants as put
-use Rattle.sheet_faults.specs.declared.LetGoFault.{LetGoFault}
-use Rattle.sheet_faults.specs.declared.LetGoFault.the-variants as let-go
-use Rattle.sheet_faults.specs.declared.CloseFault.{CloseFault}
-use Rattle.sheet_faults.specs.declared.CloseFault.the-variants as close
-use Rattle.sheet_faults.specs.declared.LoadFault.{LoadFault}
-use Rattle.sheet_faults.specs.declared.LoadFault.the-variants as load
-use Rattle.sheet_faults.specs.declared.WriteFault.{WriteFault}
-use Rattle.sheet_faults.specs.declared.WriteFault.the-variants as write
+use mathlib.Core.Path.{_≡_}
+use mathlib.Core.List.{List, [], _∷_}
+use Prim.Native.Nat.{ℕ}
+use Rattle.std.specs.declared.option.Option.{Option}
+use Rattle.std.specs.declared.option.Option.the-variants.{Some, None}
+use Rattle.arena.specs.Refusals.{Outcome, Done, refused}
+use Rattle.sheet_faults.specs.declared.refusal.Refusal.{Refusal}
+use Rattle.sheet_faults.specs.declared.faults.ShapeFault.{ShapeFault}
+use Rattle.sheet_faults.specs.declared.faults.ShapeFault.the-variants as shape
+use Rattle.sheet_faults.specs.declared.faults.TakeFault.{TakeFault}
+use Rattle.sheet_faults.specs.declared.faults.TakeFault.the-variants as take
+use Rattle.sheet_faults.specs.declared.faults.PutFault.{PutFault}
+use Rattle.sheet_faults.specs.declared.faults.PutFault.the-variants as put
+use Rattle.sheet_faults.specs.declared.faults.LetGoFault.{LetGoFault}
+use Rattle.sheet_faults.specs.declared.faults.LetGoFault.the-variants as let-go
+use Rattle.sheet_faults.specs.declared.faults.CloseFault.{CloseFault}
+use Rattle.sheet_faults.specs.declared.faults.CloseFault.the-variants as close
+use Rattle.sheet_faults.specs.declared.faults.LoadFault.{LoadFault}
+use Rattle.sheet_faults.specs.declared.faults.LoadFault.the-variants as load
+use Rattle.sheet_faults.specs.declared.faults.WriteFault.{WriteFault}
+use Rattle.sheet_faults.specs.declared.faults.WriteFault.the-variants as write
 
 abbrev pub shape-refusal : {A : Type 0} → ShapeFault → Outcome A
 shape-refusal (shape.RowOut position) = refused 10 (position ∷ [])
@@ -45,3 +50,12 @@ load-refusal (load.Strip f) = refused 13 (f .place ∷ [])
 
 abbrev pub write-refusal : {A : Type 0} → WriteFault → Outcome A
 write-refusal write.Short = refused 3 []
+
+-- what a refusal in numbers names
+abbrev pub named-by : Option ℕ → List ℕ
+named-by None = []
+named-by (Some place) = place ∷ []
+
+-- a refusal in numbers tells an outcome
+abbrev pub Same : Refusal → Outcome Done → Type 0
+Same r o = refused (r .number) (named-by (r .named)) ≡ o

@@ -1,79 +1,45 @@
-ghost use Rattle.sheet_faults.specs.declared.LoadFault.the-variants.{Strip};
-ghost use mathlib.Core.Path.{_≡_};
-use strip::StripFault;
-use strip::StripFaultDebug;
-use strip::StripFaultEq;
-use strip::StripFaultPartialEq;
+mod faults;
+mod refusal;
 
-/// Why a sheet does not get another shape.
-#[derive(Clone, Copy, Debug, PartialEq, Eq)]
-pub enum ShapeFault {
-    /// This row is the lowest that is out.
-    RowOut(u16),
-    /// The number of positions is not 1 to 512.
-    Positions,
-    /// The number of goals is not 1 to 8.
-    Goals,
-}
-
-/// Why a row is not handed out.
-#[derive(Clone, Copy, Debug, PartialEq, Eq)]
-pub enum TakeFault {
-    /// The seat is not 1 to 16.
-    NoSuchSeat,
-    /// The sheet has no such position.
-    NoSuchPosition,
-    /// The row is out already, to this seat or another.
-    RowOut,
-}
-
-/// Why a draft is not stored.
-#[derive(Clone, Copy, Debug, PartialEq, Eq)]
-pub enum PutFault {
-    /// The row is not out to the slip's seat.
-    NotOut,
-    /// The draft has a move to no position of the sheet.
-    NoSuchMove,
-    /// The draft has a mark for no goal of the sheet.
-    NoSuchGoal,
-}
-
-/// Why a row is not let go.
-#[derive(Clone, Copy, Debug, PartialEq, Eq)]
-pub enum LetGoFault {
-    /// The row is not out to the slip's seat.
-    NotOut,
-}
-
-/// Why a sheet does not close.
-#[derive(Clone, Copy, Debug, PartialEq, Eq)]
-pub enum CloseFault {
-    /// This row is the lowest that is out.
-    RowOut(u16),
-    /// This row is the lowest without moves.
-    NoMoves(u16),
-}
-
-/// Why a sheet is not loaded.
-#[derive(Clone, Copy, Debug, PartialEq, Eq)]
-pub enum LoadFault {
-    /// This row is the lowest that is out.
-    RowOut(u16),
-    /// The strip is faulty.
-    Strip(StripFault),
-}
-
-pub impl From<StripFault> for LoadFault as LoadFromStrip {
-    ghost converts = { λ e r. r ≡ Strip e };
-
-    fn from(e: StripFault) -> LoadFault {
-        LoadFault::Strip(e)
-    }
-}
-
-/// Why a strip is not written.
-#[derive(Clone, Copy, Debug, PartialEq, Eq)]
-pub enum WriteFault {
-    /// The memory is shorter than the strip.
-    Short,
-}
+pub use faults::CloseFault;
+pub use faults::CloseFaultDebug;
+pub use faults::CloseFaultEq;
+pub use faults::CloseFaultPartialEq;
+pub use faults::LetGoFault;
+pub use faults::LetGoFaultDebug;
+pub use faults::LetGoFaultEq;
+pub use faults::LetGoFaultPartialEq;
+pub use faults::LoadFault;
+pub use faults::LoadFaultDebug;
+pub use faults::LoadFaultEq;
+pub use faults::LoadFaultPartialEq;
+pub use faults::LoadFromStrip;
+pub use faults::PutFault;
+pub use faults::PutFaultDebug;
+pub use faults::PutFaultEq;
+pub use faults::PutFaultPartialEq;
+pub use faults::ShapeFault;
+pub use faults::ShapeFaultDebug;
+pub use faults::ShapeFaultEq;
+pub use faults::ShapeFaultPartialEq;
+pub use faults::TakeFault;
+pub use faults::TakeFaultDebug;
+pub use faults::TakeFaultEq;
+pub use faults::TakeFaultPartialEq;
+pub use faults::WriteFault;
+pub use faults::WriteFaultDebug;
+pub use faults::WriteFaultEq;
+pub use faults::WriteFaultPartialEq;
+pub use refusal::Refusal;
+pub use refusal::RefusalDebug;
+pub use refusal::RefusalEq;
+pub use refusal::RefusalFromClose;
+pub use refusal::RefusalFromLetGo;
+pub use refusal::RefusalFromLink;
+pub use refusal::RefusalFromLoad;
+pub use refusal::RefusalFromMark;
+pub use refusal::RefusalFromPut;
+pub use refusal::RefusalFromShape;
+pub use refusal::RefusalFromTake;
+pub use refusal::RefusalFromWrite;
+pub use refusal::RefusalPartialEq;
