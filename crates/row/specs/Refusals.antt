@@ -10,11 +10,17 @@ use Rattle.row.specs.declared.faults.MarkFault.{MarkFault}
 use Rattle.row.specs.declared.faults.MarkFault.the-variants.{NoSuchGoal}
 
 -- a seventeenth move is number 12
+abbrev pub link-refusal : {A : Type 0} → LinkFault → Outcome A
+link-refusal TooMany = refused 12 []
+
 abbrev pub link-outcome : Result Bool LinkFault → Outcome Bool
 link-outcome (Ok changed) = accepted changed
-link-outcome (Err TooMany) = refused 12 []
+link-outcome (Err f) = link-refusal f
 
 -- a goal above 7 is number 2
+abbrev pub mark-refusal : {A : Type 0} → MarkFault → Outcome A
+mark-refusal NoSuchGoal = refused 2 []
+
 abbrev pub mark-outcome : Result Bool MarkFault → Outcome Bool
 mark-outcome (Ok changed) = accepted changed
-mark-outcome (Err NoSuchGoal) = refused 2 []
+mark-outcome (Err f) = mark-refusal f

@@ -2,5 +2,5 @@ pub mod Sheets
 pub mod Slots
 pub mod Laws
 pub mod SheetModel
-pub mod Refusals
+pub mod Outcomes
 pub mod Succession

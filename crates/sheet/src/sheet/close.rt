@@ -1,6 +1,6 @@
 ghost use Prim.Native.Nat.{ℕ};
 ghost use Rattle.arena.specs.Refusals.{done, told};
-ghost use Rattle.sheet.specs.Refusals.{close-outcome};
+ghost use Rattle.sheet.specs.Outcomes.{close-outcome};
 ghost use Rattle.sheet.specs.SheetModel.{sheet-of};
 ghost use Rattle.sheet.specs.Sheets.{arena-of, close-answer, lowest-bare};
 ghost use Rattle.sheet.specs.Slots.{arena-drawn};
@@ -9,9 +9,9 @@ ghost use Rattle.std.specs.declared.option.Option.the-variants.{None};
 ghost use denote.Ref.{now as at};
 ghost use mathlib.Core.Path.{_≡_};
 use crate::closed::ClosedSheet;
-use crate::faults::CloseFault;
 use crate::sheet::Sheet;
 use crate::slots::first_bare;
+use sheet_faults::CloseFault;
 
 impl Sheet {
     /// The lowest row without moves.

@@ -1,22 +1,23 @@
 ghost use Prim.Native.Nat.{ℕ};
 ghost use Rattle.arena.specs.Refusals.{told};
 ghost use Rattle.row.specs.RowModel.{row-of};
-ghost use Rattle.sheet.specs.Refusals.{let-go-outcome, put-outcome, shape-outcome, take-outcome, unspent};
+ghost use Rattle.sheet.specs.Outcomes.{let-go-outcome, put-outcome, shape-outcome, take-outcome, unspent};
 ghost use Rattle.sheet.specs.SheetModel.{sheet-of};
 ghost use Rattle.sheet.specs.Sheets.{blank, count-answer, let-go-after, let-go-answer, put-after, put-answer, shape-after, shape-answer, take-after, take-answer, take-draft};
+ghost use Rattle.sheet.specs.Succession.{Sheets-keep};
 ghost use Rattle.std.specs.Results.{Cases};
 ghost use Rattle.std.specs.Vec.{made};
 ghost use mathlib.Core.Path.{_≡_};
-use crate::faults::LetGoFault;
-use crate::faults::PutFault;
-use crate::faults::ShapeFault;
-use crate::faults::TakeFault;
 use crate::sheet::Sheet;
 use crate::slip::Slip;
 use crate::slots::all_below;
 use crate::slots::count_out;
 use crate::slots::fill_empty;
 use row::Row;
+use sheet_faults::LetGoFault;
+use sheet_faults::PutFault;
+use sheet_faults::ShapeFault;
+use sheet_faults::TakeFault;
 use std::alloc::AllocError;
 use std::alloc::Global;
 
@@ -106,10 +107,21 @@ impl Sheet {
         Ok(())
     }
 
-    /// How many rows are out.
-    pub fn count(&self) -> u16
-        ensures { λ r. ⌜ r ≡ count-answer (sheet-of (now (self .entry))) ⌝ }
+    /// How many rows are out, with the law over successions of calls.
+    fn number_out(&self) -> u16
+        ensures answer { λ r. ⌜ r ≡ count-answer (sheet-of (now (self .entry))) ⌝ }
+        ensures law { λ _. ⌜ Sheets-keep ⌝ }
     {
         count_out(self.slots.as_slice())
+    }
+
+    /// How many rows are out. The law that stands beside the answer says what it is to be out: after any succession of
+    /// takes, puts, let gos and counts on a new sheet, each row is the draft of its last accepted put, or empty, and the
+    /// count is the number of rows taken and neither put nor let go since.
+    pub fn count(&self) -> u16
+        ensures answer { λ r. ⌜ r ≡ count-answer (sheet-of (now (self .entry))) ⌝ }
+        ensures law { λ _. ⌜ Sheets-keep ⌝ }
+    {
+        self.number_out()
     }
 }

@@ -1,6 +1,6 @@
 ghost use Prim.Native.Nat.{ℕ, _≤_};
 ghost use Rattle.arena.specs.Sets.{upto};
-ghost use Rattle.sheet.specs.Refusals.{load-outcome, write-outcome};
+ghost use Rattle.sheet.specs.Outcomes.{load-outcome, write-outcome};
 ghost use Rattle.sheet.specs.SheetModel.{sheet-of};
 ghost use Rattle.sheet.specs.Sheets.{Reads-back, Writes-back, all-in, load-after, load-answer, strip-of, write-answer, write-bytes};
 ghost use Rattle.std.specs.Results.{Cases};
@@ -10,13 +10,13 @@ ghost use Rattle.strip.specs.Writing.{strip-bytes};
 ghost use lib.ListN.{drop, length};
 ghost use mathlib.Core.List.{_++_, map};
 ghost use mathlib.Core.Path.{_≡_};
-use crate::faults::LoadFault;
-use crate::faults::LoadFromStrip;
-use crate::faults::WriteFault;
 use crate::loading::fill_read;
 use crate::sheet::Sheet;
 use crate::writing::put_strip;
 use arena::number_at;
+use sheet_faults::LoadFault;
+use sheet_faults::LoadFromStrip;
+use sheet_faults::WriteFault;
 use strip::inspect;
 
 impl Sheet {

@@ -1,4 +1,4 @@
-ghost use Rattle.sheet.specs.declared.faults.LoadFault.the-variants.{Strip};
+ghost use Rattle.sheet_faults.specs.declared.faults.LoadFault.the-variants.{Strip};
 ghost use mathlib.Core.Path.{_≡_};
 use strip::StripFault;
 use strip::StripFaultDebug;
@@ -63,17 +63,17 @@ pub enum LoadFault {
     Strip(StripFault),
 }
 
+/// Why a strip is not written.
+#[derive(Clone, Copy, Debug, PartialEq, Eq)]
+pub enum WriteFault {
+    /// The memory is shorter than the strip.
+    Short,
+}
+
 pub impl From<StripFault> for LoadFault as LoadFromStrip {
     ghost converts = { λ e r. r ≡ Strip e };
 
     fn from(e: StripFault) -> LoadFault {
         LoadFault::Strip(e)
     }
-}
-
-/// Why a strip is not written.
-#[derive(Clone, Copy, Debug, PartialEq, Eq)]
-pub enum WriteFault {
-    /// The memory is shorter than the strip.
-    Short,
 }
