@@ -5,9 +5,9 @@ use Prim.Native.Nat.{ℕ}
 use native.Mathlib.Omega.{arith}
 use Rattle.arena.specs.Refusals.{Outcome, accepted, refused, done, told}
 use Rattle.arena.specs.Arena.{Meaning}
-use Rattle.sheet.specs.Refusals.{close-refusal}
-use Rattle.sheet.specs.declared.faults.CloseFault.{CloseFault}
-use Rattle.sheet.specs.declared.faults.CloseFault.the-variants as close
+use Rattle.sheet_faults.specs.Refusals.{close-refusal}
+use Rattle.sheet_faults.specs.declared.faults.CloseFault.{CloseFault}
+use Rattle.sheet_faults.specs.declared.faults.CloseFault.the-variants as close
 use Rattle.strip.specs.Refusals.{open-refusal}
 use Rattle.strip.specs.declared.faults.OpenFault.{OpenFault}
 use Rattle.strip.specs.declared.faults.OpenFault.the-variants as open′

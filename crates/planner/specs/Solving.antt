@@ -9,7 +9,7 @@ use Rattle.solver.specs.Refused.{refusal}
 use Rattle.solver.specs.Solve.{solve, bytes-after, work-after}
 use Rattle.strip.specs.Refusals.{open-refusal}
 use Rattle.strip.specs.Strip.{open-answer}
-use Rattle.sheet.specs.Refusals.{close-refusal}
+use Rattle.sheet_faults.specs.Refusals.{close-refusal}
 use Rattle.sheet.specs.Sheets.{Sheet, close-answer}
 use Rattle.planner.specs.declared.solving.StripSolveFault.{StripSolveFault}
 use Rattle.planner.specs.declared.solving.StripSolveFault.the-variants as strips

@@ -10,9 +10,8 @@ use sheet::ClosedSheet;
 use sheet::Sheet;
 use solver::solve;
 
-/// Solves a sheet in two lent memories: closes it, solves the arena that its rows draw, and opens it again. Refused by 10
-/// and 11 as closing is, and then by 3. The sheet is only looked at.
-pub fn solve_sheet(
+/// Closes the sheet and solves its arena.
+fn solve_closed(
     sheet: &Sheet,
     certificate: &mut [u8],
     work: &mut [u16],
@@ -24,4 +23,18 @@ pub fn solve_sheet(
     let mut closed = ClosedSheet::empty();
     sheet.close(&mut closed)?;
     Ok(solve(&closed, certificate, work)?)
+}
+
+/// Solves a sheet in two lent memories: closes it, solves the arena that its rows draw, and opens it again. Refused by 10
+/// and 11 as closing is, and then by 3. The sheet is only looked at.
+pub fn solve_sheet(
+    sheet: &Sheet,
+    certificate: &mut [u8],
+    work: &mut [u16],
+) -> Result<(u16, u16), SheetSolveFault>
+    ensures answer { λ r. ⌜ sheet-solve-outcome r ≡ sheet-solve (sheet-of (now (sheet .entry))) (now (certificate .entry)) (now (work .entry)) ⌝ }
+    ensures bytes { λ _. ⌜ now (certificate .exit) ≡ sheet-solve-bytes (sheet-of (now (sheet .entry))) (now (certificate .entry)) (now (work .entry)) ⌝ }
+    ensures numbers { λ _. ⌜ now (work .exit) ≡ sheet-solve-work (sheet-of (now (sheet .entry))) (now (certificate .entry)) (now (work .entry)) ⌝ }
+{
+    solve_closed(sheet, certificate, work)
 }

@@ -1,7 +1,7 @@
 ghost use Rattle.planner.specs.declared.solving.SheetSolveFault.the-variants as sheets;
 ghost use Rattle.planner.specs.declared.solving.StripSolveFault.the-variants as strips;
 ghost use mathlib.Core.Path.{_≡_};
-use sheet::CloseFault;
+use sheet_faults::CloseFault;
 use solver::SolveFault;
 use strip::OpenFault;
 

@@ -6,7 +6,7 @@ use Rattle.strip.specs.Strip.{drawn, open-answer}
 use Rattle.planner.specs.Solving.{answered-bytes, answered-work, solve-answered, strip-solve-outcome}
 use Rattle.planner.proofs.Opened.{opened}
 use Rattle.planner.proofs.Refusing.{open-stays}
-use Rattle.planner.proofs.strips.solve_strip.Needs as need
+use Rattle.planner.proofs.strips.solve_opened.Needs as need
 
 pub returns-in-Break-open : need.returns-in-Break-open
 returns-in-Break-open c =

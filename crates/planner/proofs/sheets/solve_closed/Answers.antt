@@ -7,7 +7,7 @@ use Rattle.solver.specs.Solve.{solve, bytes-after, work-after}
 use Rattle.planner.specs.Solving.{answered-bytes, answered-work, solve-answered, sheet-solve-outcome}
 use Rattle.planner.proofs.Closed.{closed}
 use Rattle.planner.proofs.Refusing.{close-stays}
-use Rattle.planner.proofs.sheets.solve_sheet.Needs as need
+use Rattle.planner.proofs.sheets.solve_closed.Needs as need
 
 pub returns-in-Break-close : need.returns-in-Break-close
 returns-in-Break-close c =
