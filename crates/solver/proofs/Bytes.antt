@@ -20,8 +20,8 @@ use Rattle.solver.proofs.Records.{two-back, number-from, length-concat, concat
 -- what a list of bytes has to hold to be read as the certificate
 pub record Reads (m : Meaning) (bs : List ℕ) : Type 0 where
   pub long : length bs ≡ certificate-bytes m
-  pub begins : (byte bs 0 ≡ 0x43) × (byte bs 1 ≡ 0x48) × (number bs 2 ≡ m .size) × (number bs 4 ≡ m .goals)
-  pub ends : (byte bs (at m bs (m .size)) ≡ 0x43) × (byte bs (at m bs (m .size) + 1) ≡ 0x45) × (number bs (at m bs (m .size) + 2) ≡ m .size)
+  pub head : (byte bs 0 ≡ 0x43) × (byte bs 1 ≡ 0x48) × (number bs 2 ≡ m .size) × (number bs 4 ≡ m .goals)
+  pub end : (byte bs (at m bs (m .size)) ≡ 0x43) × (byte bs (at m bs (m .size) + 1) ≡ 0x45) × (number bs (at m bs (m .size) + 2) ≡ m .size)
   pub rows : (p o : ℕ) → p < m .size → o < record-bytes m → byte bs (at m bs p + o) ≡ getD (entry m p) o 0
 
 module _ (m : Meaning) where
@@ -44,8 +44,8 @@ module _ (m : Meaning) where
   pub reads : Reads m (certificate m)
   reads = record {
     long = let e = whole-length (entry m) k length-entry (head m) (end m) n in omega arith;
-    begins = (refl, refl, two-back n, two-back (m .goals));
-    ends = (at-end 0 (6 + n * k) (omega arith), at-end 1 (6 + n * k + 1) (omega arith), number-end);
+    head = (refl, refl, two-back n, two-back (m .goals));
+    end = (at-end 0 (6 + n * k) (omega arith), at-end 1 (6 + n * k + 1) (omega arith), number-end);
     rows = λ p o h l. ap (λ x. byte bs x) (shift p o) ∙ whole-at (entry m) k length-entry (head m) (end m) n p o h l;
   }
     where

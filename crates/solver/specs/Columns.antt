@@ -1,4 +1,5 @@
 -- Work memory in columns of n numbers, and the sets that it holds. Read after the attractor.
+-- Only the contracts of private functions cite it.
 --
 -- A column is named by the place where it begins. The first column holds for each position the stage that took it, and 0
 -- while none has. A column of ranks holds one more than the rank, and 0 where there is none.

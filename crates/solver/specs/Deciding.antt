@@ -1,4 +1,5 @@
 -- Decisions as they are read off the work memory. Read after the memory.
+-- Only the contracts of private functions cite it.
 use mathlib.Core.Path.{_≡_}
 use mathlib.Core.Bool.{Bool, false, not, _&&_, _||_, cond}
 use mathlib.Core.List.{List}

@@ -1,4 +1,5 @@
 -- What the work memory holds as the stages go on. Read after the solution and the columns.
+-- Only the contracts of private functions cite it.
 --
 --   column 0   the stage that took the position, or 0
 --   column 1   the goal that this stage picked

@@ -1,4 +1,5 @@
 -- The certificate's bytes as they are written from the work memory. Read after the certificate and the decisions.
+-- Only the contracts of private functions cite it.
 use mathlib.Core.Path.{_≡_}
 use mathlib.Core.Bool.{false, cond}
 use mathlib.Core.List.{List, _∷_, _++_}

@@ -3,7 +3,7 @@ ghost use Rattle.arena.specs.Sets.{any};
 ghost use Rattle.solver.specs.Attractor.{rank};
 ghost use Rattle.solver.specs.Columns.{Column, Ranked, Room, by-round, cell, code, drawn-in, next, numbered, present, sought};
 ghost use lib.ListN.{length};
-ghost use mathlib.Core.Bool.{false};
+ghost use mathlib.Core.Bool.{false, not, _&&_, cond};
 ghost use mathlib.Core.Path.{_≡_};
 use arena::Arena;
 
@@ -24,18 +24,21 @@ fn is_by(work: &[u16], n: u16, at: usize, i: u16, p: u16) -> bool
     0 < x && x <= i + 1
 }
 
-// Whether position `p` is looked for: by round `i` in the column at `at`, or, for the other side, present and not by it.
+// Whether a position is looked for: one of the set, or, for the other side, one that is inside and not in the set.
+fn is_wanted(other: bool, inside: bool, by: bool) -> bool
+    ensures { λ r. ⌜ r ≡ cond other (inside && not by) by ⌝ }
+{
+    if other { inside && !by } else { by }
+}
+
+// Whether position `p` is looked for, the set being what the column of ranks at `at` has by round `i`.
 fn is_sought(work: &[u16], n: u16, at: usize, i: u16, other: bool, p: u16) -> bool
     requires { ⌜ p < n ⌝ ∗ ⌜ Room n at (now work) ⌝ ∗ ⌜ i < n ⌝ }
     ensures { λ r. ⌜ r ≡ sought n (now (work .entry)) at i other p ⌝ }
 {
+    let inside = is_present(work, n, p);
     let by = is_by(work, n, at, i, p);
-    if other {
-        let inside = is_present(work, n, p);
-        inside && !by
-    } else {
-        by
-    }
+    is_wanted(other, inside, by)
 }
 
 // Whether some move of position `p` lies in the set that is looked for.

@@ -13,6 +13,7 @@ use arena::Arena;
 use plan::plan;
 use plan::zero;
 
+// From the bottom up: the attractor in rounds, the stages, the decisions, the records, and all of them in their order.
 mod attract;
 mod decide;
 mod plan;
