@@ -1,0 +1,6 @@
+#[cfg(test)]
+mod drafts;
+#[cfg(test)]
+mod sheets;
+#[cfg(test)]
+mod strips;
