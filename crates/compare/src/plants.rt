@@ -45,7 +45,7 @@ fn draw_set(random: &mut Random, n: u16, size: u16) -> u16 {
     set
 }
 
-/// Draws a plant. Each position has one to four moves, each goal up to as many marks as a third of the positions.
+/// Draws a plant: each position has one to four moves, and about a third of the positions at most are marked for a goal.
 pub fn draw(random: &mut Random) -> Plant {
     let n = random.up_to(11).saturating_add(1);
     let k = random.up_to(2).saturating_add(1);
