@@ -8,7 +8,7 @@ ghost use mathlib.Core.Path.{_≡_};
 use arena::Arena;
 
 // Whether no stage has taken position `p`.
-pub fn is_present(work: &[u16], n: u16, p: u16) -> bool
+pub(crate) fn is_present(work: &[u16], n: u16, p: u16) -> bool
     requires { ⌜ p < n ⌝ ∗ ⌜ n ≤ length (now work) ⌝ }
     ensures { λ r. ⌜ r ≡ present n (now (work .entry)) p ⌝ }
 {
@@ -101,7 +101,7 @@ fn one_round<A: Arena>(a: &A, work: &mut [u16], at: usize, i: u16, side: u16) ->
 }
 
 // The side's attractor of the positions that are numbered in the column at `at`, inside those that are present: every rank.
-pub fn attract<A: Arena>(a: &A, work: &mut [u16], at: usize, side: u16)
+pub(crate) fn attract<A: Arena>(a: &A, work: &mut [u16], at: usize, side: u16)
     requires room { ⌜ Room (meaning (now a) .size) at (now work) ⌝ }
     requires start { ⌜ ((k : ℕ) → k < meaning (now a) .size → cell (now work) at k ≤ 1) ⌝ }
     ensures { λ _. ⌜ Column (meaning (now (a .entry)) .size) at (λ k. code (rank (meaning (now (a .entry))) side (present (meaning (now (a .entry)) .size) (now (work .entry))) (numbered (meaning (now (a .entry)) .size) (now (work .entry)) at) k)) (now (work .entry)) (now (work .exit)) ⌝ }

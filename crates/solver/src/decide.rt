@@ -12,7 +12,7 @@ use arena::Arena;
 const NO_MOVE: u16 = 65535;
 
 // The rank of position `p` in the column at `from`.
-pub fn rank_in(work: &[u16], from: usize, p: u16) -> u16
+pub(crate) fn rank_in(work: &[u16], from: usize, p: u16) -> u16
     requires { ⌜ from + p < length (now work) ⌝ }
     ensures { λ r. ⌜ r ≡ rank-in (now (work .entry)) from p ⌝ }
 {
@@ -109,7 +109,7 @@ fn move_at<A: Arena>(a: &A, p: u16, j: u16) -> u16
 
 // The side's decision at each position, in the column at `at`: where the side owns the position, the lowest of its moves
 // that qualifies.
-pub fn decide<A: Arena>(a: &A, work: &mut [u16], side: u16, from: usize, at: usize)
+pub(crate) fn decide<A: Arena>(a: &A, work: &mut [u16], side: u16, from: usize, at: usize)
     requires { ⌜ Beside (meaning (now a) .size) from at (now work) ⌝ }
     ensures { λ _. ⌜ Column (meaning (now (a .entry)) .size) at (decision (meaning (now (a .entry))) (now (work .entry)) side from) (now (work .entry)) (now (work .exit)) ⌝ }
 {

@@ -1,7 +1,5 @@
 ghost use Prim.Native.Nat.{_+_, _*_, _≤_};
 ghost use Rattle.arena.specs.Sets.{between};
-ghost use Rattle.arena.specs.Arena.{Lawful, Meaning};
-ghost use Rattle.solver.specs.Accepted.{Solved-is-accepted};
 ghost use Rattle.solver.specs.Refused.{outcome};
 ghost use Rattle.solver.specs.Solve.{bytes-after, solve, work-after};
 ghost use lib.Dec.{leb};
@@ -93,10 +91,4 @@ pub fn solve<A: Arena>(
     let guard = Wipe { work, used };
     let answer = plan(a, certificate, guard.work);
     Ok(answer)
-}
-
-fn accepted_stands() -> u8
-    ensures { λ _. ⌜ ((m : Meaning) → Lawful m → Solved-is-accepted m) ⌝ }
-{
-    0
 }

@@ -19,7 +19,7 @@ use super::stage::run_stages;
 use arena::Arena;
 
 // The first `used` numbers become zero.
-pub fn zero(work: &mut [u16], used: usize)
+pub(crate) fn zero(work: &mut [u16], used: usize)
     requires { ⌜ used ≤ length (now work) ⌝ }
     ensures { λ _. ⌜ now (work .exit) ≡ replicate used 0 ++ drop used (now (work .entry)) ⌝ }
 {
@@ -83,7 +83,7 @@ fn write_certificate<A: Arena>(a: &A, work: &mut [u16], out: &mut [u8])
 }
 
 // The whole work, in memories that are long enough: how many positions are the controller's, and how many stages there are.
-pub fn plan<A: Arena>(a: &A, out: &mut [u8], work: &mut [u16]) -> (u16, u16)
+pub(crate) fn plan<A: Arena>(a: &A, out: &mut [u8], work: &mut [u16]) -> (u16, u16)
     requires enough { ⌜ Enough (meaning (now a)) (now work) ⌝ }
     requires fits { ⌜ certificate-bytes (meaning (now a)) ≤ length (now out) ⌝ }
     ensures answer { λ r. ⌜ r ≡ (controlled (meaning (now (a .entry))), stages (meaning (now (a .entry)))) ⌝ }

@@ -24,7 +24,7 @@ fn write_two(out: &mut [u8], at: usize, x: u16)
 }
 
 // The head, with the numbers of positions and goals.
-pub fn write_head(out: &mut [u8], n: u16, goals: u16)
+pub(crate) fn write_head(out: &mut [u8], n: u16, goals: u16)
     requires { ⌜ 6 ≤ length (now out) ⌝ }
     ensures { λ _. ⌜ Put 6 0 (0x43 ∷ 0x48 ∷ (two n ++ two goals)) (now (out .entry)) (now (out .exit)) ⌝ }
 {
@@ -34,7 +34,7 @@ pub fn write_head(out: &mut [u8], n: u16, goals: u16)
 }
 
 // The end, with the number of positions.
-pub fn write_end(out: &mut [u8], at: usize, n: u16)
+pub(crate) fn write_end(out: &mut [u8], at: usize, n: u16)
     requires { ⌜ at + 4 ≤ length (now out) ⌝ }
     ensures { λ _. ⌜ Put 4 at (0x43 ∷ 0x45 ∷ two n) (now (out .entry)) (now (out .exit)) ⌝ }
 {
@@ -101,7 +101,7 @@ fn write_goal_of(work: &[u16], n: u16, from: usize, p: u16, out: &mut [u8], at: 
 }
 
 // The fronts of all records, each of `width` bytes.
-pub fn write_fronts(work: &[u16], n: u16, out: &mut [u8], width: usize)
+pub(crate) fn write_fronts(work: &[u16], n: u16, out: &mut [u8], width: usize)
     requires columns { ⌜ 6 * n ≤ length (now work) ⌝ }
     requires goals { ⌜ Goals-fit n (now work) ⌝ }
     requires rows { ⌜ Records n width (now out) ⌝ }
@@ -114,7 +114,14 @@ pub fn write_fronts(work: &[u16], n: u16, out: &mut [u8], width: usize)
 }
 
 // The goal with the ranks at `from` in all records, at an offset.
-pub fn write_goals_of(work: &[u16], n: u16, from: usize, out: &mut [u8], width: usize, off: usize)
+pub(crate) fn write_goals_of(
+    work: &[u16],
+    n: u16,
+    from: usize,
+    out: &mut [u8],
+    width: usize,
+    off: usize,
+)
     requires columns { ⌜ 6 * n ≤ length (now work) ⌝ }
     requires source { ⌜ from + n ≤ length (now work) ⌝ }
     requires rows { ⌜ Records n width (now out) ⌝ }

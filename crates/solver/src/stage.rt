@@ -151,7 +151,7 @@ fn take_stage<A: Arena>(a: &A, work: &mut [u16], from: usize, s: u16, g: u16)
 }
 
 // All stages, from a first column of zeros: how many there are.
-pub fn run_stages<A: Arena>(a: &A, work: &mut [u16]) -> u16
+pub(crate) fn run_stages<A: Arena>(a: &A, work: &mut [u16]) -> u16
     requires enough { ⌜ Enough (meaning (now a)) (now work) ⌝ }
     requires fresh { ⌜ ((k : ℕ) → k < meaning (now a) .size → getD (now work) k 0 ≡ 0) ⌝ }
     ensures count { λ r. ⌜ r ≡ stages (meaning (now (a .entry))) ⌝ }
