@@ -224,14 +224,14 @@ module _ (m : Meaning) (law : Lawful m) (bs : List ℕ) (fs : (p : ℕ) → p < 
 module _ (m : Meaning) (bs : List ℕ) (r : Reads m bs) where
   head-is-right : head-right m bs ≡ true
   head-is-right =
-      let h = r .begins in
+      let h = r .head in
       and-from (mark bs 0 0x48 && eqb (number bs 2) (m .size)) _
       (and-from (mark bs 0 0x48) (eqb (number bs 2) (m .size)) (mark-true bs 0 0x48 (h .0) (h .1)) (eq-eqb (number bs 2) (m .size) (h .2)))
       (eq-eqb (number bs 4) (m .goals) (h .3))
 
   end-is-right : end-right m bs ≡ true
   end-is-right =
-      let h = r .ends in
+      let h = r .end in
       let e : ℕ = record-start m (m .size) in
       and-from (mark bs e 0x45) _ (mark-true bs e 0x45 (h .0) (h .1)) (eq-eqb (number bs (e + 2)) (m .size) (h .2))
 
