@@ -22,7 +22,7 @@ pub enum Answer {
 }
 
 /// What writing to a string answers, as want of memory.
-fn written(r: fmt::Result) -> Result<(), AllocError> {
+pub fn written(r: fmt::Result) -> Result<(), AllocError> {
     match r {
         Ok(()) => Ok(()),
         Err(_) => Err(AllocError),

@@ -8,6 +8,7 @@ use crate::hand::put;
 use crate::hand::take;
 use crate::hex::bytes_of;
 use crate::hex::push_hex;
+use crate::solving::solve;
 use crate::words::Given;
 use crate::words::numbers;
 use crate::words::seat;
@@ -101,38 +102,66 @@ fn perform(heap: Global, sheet: &mut Sheet, hand: &mut Vec<Held>, line: &str) ->
     }
 }
 
-/// Performs the calls of all lines, and adds a line with its answer for each.
+/// What a list of calls comes to: the answers and then the strip as text, the strip that the sheet is, and the certificate
+/// of the last accepted solve, no bytes where there was none.
+#[derive(Drop)]
+pub struct Drawing {
+    pub text: String,
+    pub strip: Vec<u8>,
+    pub certificate: Vec<u8>,
+}
+
+/// Performs the calls of all lines, and adds a line with its answer for each; an accepted solve has a second line, the
+/// certificate.
 fn perform_all(
     heap: Global,
     sheet: &mut Sheet,
     hand: &mut Vec<Held>,
     out: &mut String,
+    certificate: &mut Vec<u8>,
     text: &str,
 ) -> Result<(), AllocError> {
     for line in text.lines() {
-        push_answer(out, perform(heap, sheet, hand, line))?;
+        if line == "solve" {
+            solve(heap, sheet, out, certificate)?;
+        } else {
+            push_answer(out, perform(heap, sheet, hand, line))?;
+        }
     }
     Ok(())
 }
 
-/// Adds the strip that the sheet is.
-fn push_strip(heap: Global, sheet: &Sheet, out: &mut String) -> Result<(), AllocError> {
+/// The strip that the sheet is.
+fn strip_of(heap: Global, sheet: &Sheet) -> Result<Vec<u8>, AllocError> {
     let mut bytes = vec![in heap; 0u8; LONGEST]?;
     let _ = sheet.write(bytes.as_mut_slice());
     let n = number_at(bytes.as_slice(), 2);
-    push_hex(out, bytes.as_slice(), 38 * n as usize + 10)
+    bytes.truncate(38 * n as usize + 10);
+    Ok(bytes)
 }
 
-/// Performs a list of calls on a blank sheet: the answers, a line for each, and then the strip that the sheet is. Rows
-/// that are held still at the end are let go.
-pub fn drawn(rt: &LibcRuntime, text: &str) -> Result<String, AllocError> {
+/// Performs a list of calls on a blank sheet. Rows that are held still at the end are let go.
+pub fn drawn(rt: &LibcRuntime, text: &str) -> Result<Drawing, AllocError> {
     let heap = rt.alloc();
     let mut sheet = Sheet::new(heap)?;
     let mut out = String::new(heap);
+    let mut certificate = Vec::new(heap);
     let mut hand = Vec::new(heap);
-    let performed = perform_all(heap, &mut sheet, &mut hand, &mut out, text);
+    let performed = perform_all(
+        heap,
+        &mut sheet,
+        &mut hand,
+        &mut out,
+        &mut certificate,
+        text,
+    );
     let_all_go(&mut sheet, hand);
     performed?;
-    push_strip(heap, &sheet, &mut out)?;
-    Ok(out)
+    let strip = strip_of(heap, &sheet)?;
+    push_hex(&mut out, strip.as_slice(), strip.len())?;
+    Ok(Drawing {
+        text: out,
+        strip,
+        certificate,
+    })
 }
