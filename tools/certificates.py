@@ -3,12 +3,13 @@
 
 Usage: certificates.py make STRIP CERTIFICATE     writes the certificate of a strip
        certificates.py trials FOLDER              prints what the program trials should, for its data folder
+       certificates.py plans STRIP..              prints what the program vectors should, for these strips
        certificates.py drive STRIP CERTIFICATE    prints what the program drive should, for the events on standard input
 """
 import os
 import sys
 
-from expected import Fault, read
+from strips import Fault, read
 
 NO_MOVE = 65535
 
@@ -251,6 +252,35 @@ def trials(folder):
             tell("go", bs, "go")
 
 
+def plan(bs):
+    """The text that the program prints for the bytes of a strip."""
+    try:
+        plant = Plant(bs)
+    except Fault as fault:
+        return "refused %d %d\n" % fault.args
+    table = Table(plant, make(plant))
+
+    def name(q):
+        return "-" if q == NO_MOVE else str(q)
+
+    lines = []
+    for p in range(plant.n):
+        if table.side(p) == 0:
+            parts = ["C"] + ["%d:%s" % (table.rank(g, p), name(table.goal_move(g, p))) for g in range(plant.k)]
+        else:
+            parts = ["T", str(table.goal(p)), str(table.stage(p)), str(table.approach(p)), name(table.move(p))]
+        lines.append(" ".join([str(p)] + parts))
+    ours = sum(table.side(p) == 0 for p in range(plant.n))
+    stages = max(table.stage(p) for p in range(plant.n))
+    return "\n".join(["plan %d %d %d %d" % (plant.n, plant.k, ours, stages)] + lines) + "\n"
+
+
+def plans(paths):
+    for path in paths:
+        print("strip " + os.path.basename(path).removesuffix(".strip"))
+        print(plan(open(path, "rb").read()), end="")
+
+
 def drive(strip, certificate):
     try:
         plant = Plant(open(strip, "rb").read())
@@ -276,6 +306,8 @@ def drive(strip, certificate):
 if __name__ == "__main__":
     if sys.argv[1] == "make":
         open(sys.argv[3], "wb").write(make(Plant(open(sys.argv[2], "rb").read())))
+    elif sys.argv[1] == "plans":
+        plans(sys.argv[2:])
     elif sys.argv[1] == "trials":
         trials(sys.argv[2])
     else:

@@ -1,10 +1,4 @@
-#!/usr/bin/env python3
-"""What the program should print for a strip, by a second and independent reading of docs/STRIPS.md.
-
-Usage: expected.py FILE..   prints for each strip a line `strip NAME` and the expected text.
-"""
-import os
-import sys
+"""Strips by a second and independent reading of docs/STRIPS.md."""
 
 
 class Fault(Exception):
@@ -55,23 +49,3 @@ def read(bs):
         if not row[2]:
             raise Fault(11, p)
     return n, k, rows
-
-
-def text(bs):
-    """The lines that the program prints."""
-    try:
-        n, k, rows = read(bs)
-    except Fault as fault:
-        return "refused %d %d\n" % fault.args
-    lines = ["plant %d %d" % (n, k)]
-    for p, (owner, goals, moves) in enumerate(rows):
-        marked = ",".join(map(str, goals)) or "-"
-        lines.append("%d %s %s %s" % (p, "CT"[owner], marked, ",".join(map(str, moves))))
-    return "".join(line + "\n" for line in lines)
-
-
-if __name__ == "__main__":
-    for path in sys.argv[1:]:
-        with open(path, "rb") as strip:
-            print("strip " + os.path.basename(path).removesuffix(".strip"))
-            print(text(strip.read()), end="")
