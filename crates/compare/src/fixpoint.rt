@@ -45,7 +45,7 @@ fn narrowed(plant: &Plant, set: u16) -> u16 {
 
 /// The positions from which the controller can visit every goal again and again: the greatest fixpoint, which is reached in
 /// one round more than there are positions.
-pub fn winning(plant: &Plant) -> u16 {
+pub(crate) fn winning(plant: &Plant) -> u16 {
     let mut answer = 0xffff;
     for _ in 0..=plant.n {
         answer = narrowed(plant, answer);

@@ -2,12 +2,12 @@ use crate::random::Random;
 use std::error::AnyError;
 
 /// Sets of positions are numbers of sixteen bits, the bit of position p being worth 2 to the p.
-pub fn bit(p: u16) -> u16 {
+pub(crate) fn bit(p: u16) -> u16 {
     1 << (p % 16)
 }
 
 /// Whether the set has position `p`.
-pub fn has(set: u16, p: u16) -> bool {
+pub(crate) fn has(set: u16, p: u16) -> bool {
     set & bit(p) != 0
 }
 
@@ -26,12 +26,12 @@ pub struct Plant {
 
 impl Plant {
     /// The positions that are marked for goal `g`.
-    pub fn goal(&self, g: u16) -> u16 {
+    pub(crate) fn goal(&self, g: u16) -> u16 {
         self.marked[g as usize % 4]
     }
 
     /// The positions that `p` has a move to.
-    pub fn row(&self, p: u16) -> u16 {
+    pub(crate) fn row(&self, p: u16) -> u16 {
         self.moves[p as usize % 16]
     }
 }
@@ -46,7 +46,7 @@ fn draw_set(random: &mut Random, n: u16, size: u16) -> u16 {
 }
 
 /// Draws a plant: each position has one to four moves, and about a third of the positions at most are marked for a goal.
-pub fn draw(random: &mut Random) -> Plant {
+pub(crate) fn draw(random: &mut Random) -> Plant {
     let n = random.up_to(11).saturating_add(1);
     let k = random.up_to(2).saturating_add(1);
     let mut marked = [0; 4];
@@ -111,7 +111,7 @@ fn put_record(bytes: &mut Vec<u8>, plant: &Plant, p: u16) -> Result<(), AnyError
 }
 
 /// Appends the strip that stores the plant.
-pub fn put_strip(bytes: &mut Vec<u8>, plant: &Plant) -> Result<(), AnyError> {
+pub(crate) fn put_strip(bytes: &mut Vec<u8>, plant: &Plant) -> Result<(), AnyError> {
     put(bytes, 0x4748)?;
     put(bytes, plant.n)?;
     put(bytes, plant.k)?;

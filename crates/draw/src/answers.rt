@@ -22,7 +22,7 @@ pub enum Answer {
 }
 
 /// What writing to a string answers, as want of memory.
-pub fn written(r: fmt::Result) -> Result<(), AllocError> {
+pub(crate) fn written(r: fmt::Result) -> Result<(), AllocError> {
     match r {
         Ok(()) => Ok(()),
         Err(_) => Err(AllocError),
@@ -39,7 +39,7 @@ fn push_refusal(out: &mut String, refusal: Refusal) -> Result<(), AllocError> {
 }
 
 /// Adds the line of an answer.
-pub fn push_answer(out: &mut String, answer: Answer) -> Result<(), AllocError> {
+pub(crate) fn push_answer(out: &mut String, answer: Answer) -> Result<(), AllocError> {
     match answer {
         Answer::Done => out.push_str("done\n"),
         Answer::Changed(true) => out.push_str("changed\n"),

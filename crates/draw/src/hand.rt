@@ -47,7 +47,7 @@ fn hold(sheet: &mut Sheet, hand: &mut Vec<Held>, slip: Slip, draft: Row) -> Answ
 }
 
 /// Takes a row and holds the slip.
-pub fn take(sheet: &mut Sheet, hand: &mut Vec<Held>, seat: u8, p: u16) -> Answer {
+pub(crate) fn take(sheet: &mut Sheet, hand: &mut Vec<Held>, seat: u8, p: u16) -> Answer {
     let mut draft = Row::empty();
     match sheet.take(seat, p, &mut draft) {
         Ok(slip) => hold(sheet, hand, slip, draft),
@@ -56,7 +56,7 @@ pub fn take(sheet: &mut Sheet, hand: &mut Vec<Held>, seat: u8, p: u16) -> Answer
 }
 
 /// Puts the draft that a seat holds for a position; a slip that is handed back is held on.
-pub fn put(sheet: &mut Sheet, hand: &mut Vec<Held>, seat: u8, p: u16) -> Answer {
+pub(crate) fn put(sheet: &mut Sheet, hand: &mut Vec<Held>, seat: u8, p: u16) -> Answer {
     let Some(i) = place(hand, seat, p) else {
         return Answer::NotHeld;
     };
@@ -71,7 +71,7 @@ pub fn put(sheet: &mut Sheet, hand: &mut Vec<Held>, seat: u8, p: u16) -> Answer 
 }
 
 /// Lets go the row that a seat holds.
-pub fn let_go(sheet: &mut Sheet, hand: &mut Vec<Held>, seat: u8, p: u16) -> Answer {
+pub(crate) fn let_go(sheet: &mut Sheet, hand: &mut Vec<Held>, seat: u8, p: u16) -> Answer {
     let Some(i) = place(hand, seat, p) else {
         return Answer::NotHeld;
     };
@@ -120,7 +120,7 @@ fn edit(draft: &mut Row, name: &str, x: u16) -> Answer {
 }
 
 /// Edits the draft that a seat holds for a position.
-pub fn change(hand: &mut Vec<Held>, seat: u8, p: u16, name: &str, x: u16) -> Answer {
+pub(crate) fn change(hand: &mut Vec<Held>, seat: u8, p: u16, name: &str, x: u16) -> Answer {
     let Some(i) = place(hand, seat, p) else {
         return Answer::NotHeld;
     };
@@ -131,7 +131,7 @@ pub fn change(hand: &mut Vec<Held>, seat: u8, p: u16, name: &str, x: u16) -> Ans
 }
 
 /// Lets all rows go that are held still.
-pub fn let_all_go(sheet: &mut Sheet, mut hand: Vec<Held>) {
+pub(crate) fn let_all_go(sheet: &mut Sheet, mut hand: Vec<Held>) {
     while let Some(held) = hand.pop() {
         let Held { slip, draft: _ } = held;
         let _ = sheet.let_go(slip);

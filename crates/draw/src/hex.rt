@@ -25,7 +25,7 @@ fn digit(x: u8) -> char {
 }
 
 /// Adds the first so many bytes in hexadecimal, as one line.
-pub fn push_hex(out: &mut String, bytes: &[u8], count: usize) -> Result<(), AllocError> {
+pub(crate) fn push_hex(out: &mut String, bytes: &[u8], count: usize) -> Result<(), AllocError> {
     for i in 0..count {
         let byte = byte_at(bytes, i);
         out.push(digit(byte / 16))?;
@@ -52,7 +52,7 @@ fn pair(high: u8, low: u8) -> Option<u8> {
 }
 
 /// The bytes of a word in hexadecimal; none where it is not one.
-pub fn bytes_of(heap: Global, word: &str) -> Result<Option<Vec<u8>>, AllocError> {
+pub(crate) fn bytes_of(heap: Global, word: &str) -> Result<Option<Vec<u8>>, AllocError> {
     let digits = word.as_bytes();
     let mut bytes = Vec::new(heap);
     if digits.len() % 2 == 1 {

@@ -141,7 +141,7 @@ fn strip_of(heap: Global, sheet: &Sheet) -> Result<Vec<u8>, AllocError> {
 }
 
 /// Performs a list of calls on a blank sheet. Rows that are held still at the end are let go.
-pub fn drawn(rt: &LibcRuntime, text: &str) -> Result<Drawing, AllocError> {
+pub(crate) fn drawn(rt: &LibcRuntime, text: &str) -> Result<Drawing, AllocError> {
     let heap = rt.alloc();
     let mut sheet = Sheet::new(heap)?;
     let mut out = String::new(heap);

@@ -44,7 +44,7 @@ fn keep(certificate: &mut Vec<u8>, bytes: &[u8]) -> Result<(), AllocError> {
 }
 
 /// Solves the sheet: adds c and s and then the certificate, or the refusal.
-pub fn solve(
+pub(crate) fn solve(
     heap: Global,
     sheet: &Sheet,
     out: &mut String,

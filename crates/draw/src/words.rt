@@ -7,7 +7,7 @@ pub struct Given {
 
 /// The numbers on a line after its first word; none where a word is no number below 65,536, or where there are more than
 /// three.
-pub fn numbers(line: &str) -> Option<Given> {
+pub(crate) fn numbers(line: &str) -> Option<Given> {
     let mut count = 0;
     let mut values = [0; 3];
     for word in line.split_whitespace().skip(1) {
@@ -24,6 +24,6 @@ pub fn numbers(line: &str) -> Option<Given> {
 }
 
 /// The seat that a number names. No seat is above 255, so that a larger number serves as one that is refused.
-pub fn seat(n: u16) -> u8 {
+pub(crate) fn seat(n: u16) -> u8 {
     if n > 255 { 255 } else { n as u8 }
 }
