@@ -1,3 +1,5 @@
+#![tactic(auto)]
+
 use anyhow::anyhow;
 use arena::{certificate_bytes, side_of};
 use control::check;

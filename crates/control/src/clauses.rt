@@ -50,7 +50,7 @@ fn is_mark(bytes: &[u8], i: usize, second: u8) -> bool
 
 /// Clause 1: the head is right for the arena.
 pub(crate) fn is_head_right<A: Arena>(arena: &A, bytes: &[u8]) -> bool
-    ensures { result ≡ head_right (meaning arena.now) bytes.now }
+    ensures { result ≡ head_right (A.meaning arena.now) bytes.now }
 {
     if !is_mark(bytes, 0, 0x48) {
         return false;
@@ -63,7 +63,7 @@ pub(crate) fn is_head_right<A: Arena>(arena: &A, bytes: &[u8]) -> bool
 
 /// Clause 2: the end is right.
 pub(crate) fn is_end_right<A: Arena>(arena: &A, bytes: &[u8]) -> bool
-    ensures { result ≡ end_right (meaning arena.now) bytes.now }
+    ensures { result ≡ end_right (A.meaning arena.now) bytes.now }
 {
     let n = arena.positions();
     let end = record_start(arena, n);
@@ -75,7 +75,7 @@ pub(crate) fn is_end_right<A: Arena>(arena: &A, bytes: &[u8]) -> bool
 
 /// Whether the step from `p` to `q` leads to side 0 and, if the rank for goal `g` is above 0, to a smaller rank.
 fn is_nearer<A: Arena>(arena: &A, bytes: &[u8], g: u16, p: u16, q: u16) -> bool
-    ensures { result ≡ nearer_of (meaning arena.now) bytes.now g p q }
+    ensures { result ≡ nearer_of (A.meaning arena.now) bytes.now g p q }
 {
     if side_of(arena, bytes, q) != 0 {
         return false;
@@ -90,7 +90,7 @@ fn is_nearer<A: Arena>(arena: &A, bytes: &[u8], g: u16, p: u16, q: u16) -> bool
 /// Whether the step from `p` to `q` is a good one for the traffic: to side 1, and either to a smaller stage, or to the
 /// same stage and goal with a smaller approach, or there from approach 0 to approach 0.
 fn is_good_step<A: Arena>(arena: &A, bytes: &[u8], p: u16, q: u16) -> bool
-    ensures { result ≡ good_step_of (meaning arena.now) bytes.now p q }
+    ensures { result ≡ good_step_of (A.meaning arena.now) bytes.now p q }
 {
     if side_of(arena, bytes, q) != 1 {
         return false;
@@ -113,8 +113,8 @@ fn is_good_step<A: Arena>(arena: &A, bytes: &[u8], p: u16, q: u16) -> bool
 
 /// Whether every move of position `p` comes nearer to goal `g`.
 fn do_all_come_nearer<A: Arena>(arena: &A, bytes: &[u8], g: u16, p: u16) -> bool
-    requires { p < (meaning arena.now).size }
-    ensures { result ≡ all (nearer_of (meaning arena.now) bytes.now g p) ((meaning arena.now).moves p) }
+    requires { p < (A.meaning arena.now).size }
+    ensures { result ≡ all (nearer_of (A.meaning arena.now) bytes.now g p) ((A.meaning arena.now).moves p) }
 {
     let Some(count) = arena.move_count(p) else {
         return false;
@@ -132,8 +132,8 @@ fn do_all_come_nearer<A: Arena>(arena: &A, bytes: &[u8], g: u16, p: u16) -> bool
 
 /// Whether every move of position `p` is a good step.
 fn are_all_good_steps<A: Arena>(arena: &A, bytes: &[u8], p: u16) -> bool
-    requires { p < (meaning arena.now).size }
-    ensures { result ≡ all (good_step_of (meaning arena.now) bytes.now p) ((meaning arena.now).moves p) }
+    requires { p < (A.meaning arena.now).size }
+    ensures { result ≡ all (good_step_of (A.meaning arena.now) bytes.now p) ((A.meaning arena.now).moves p) }
 {
     let Some(count) = arena.move_count(p) else {
         return false;
@@ -151,7 +151,7 @@ fn are_all_good_steps<A: Arena>(arena: &A, bytes: &[u8], p: u16) -> bool
 
 /// Whether the record's goal, stage, approach and the traffic's move are zero, as side 0 has them.
 fn is_unheld<A: Arena>(arena: &A, bytes: &[u8], p: u16) -> bool
-    ensures { result ≡ unheld (meaning arena.now) bytes.now p }
+    ensures { result ≡ unheld (A.meaning arena.now) bytes.now p }
 {
     if goal_of(arena, bytes, p) != 0 {
         return false;
@@ -167,7 +167,7 @@ fn is_unheld<A: Arena>(arena: &A, bytes: &[u8], p: u16) -> bool
 
 /// Whether the rank and the move of goal `g` are zero, as side 1 has them.
 fn is_unserved_for<A: Arena>(arena: &A, bytes: &[u8], p: u16, g: u16) -> bool
-    ensures { result ≡ unserved_for (meaning arena.now) bytes.now p g }
+    ensures { result ≡ unserved_for (A.meaning arena.now) bytes.now p g }
 {
     if rank_of(arena, bytes, g, p) != 0 {
         return false;
@@ -177,7 +177,7 @@ fn is_unserved_for<A: Arena>(arena: &A, bytes: &[u8], p: u16, g: u16) -> bool
 
 /// Whether the rank and the move of every goal are zero, as side 1 has them.
 fn is_unserved<A: Arena>(arena: &A, bytes: &[u8], p: u16) -> bool
-    ensures { result ≡ unserved (meaning arena.now) bytes.now p }
+    ensures { result ≡ unserved (A.meaning arena.now) bytes.now p }
 {
     for g in 0..arena.goals() {
         if !is_unserved_for(arena, bytes, p, g) {
@@ -189,7 +189,7 @@ fn is_unserved<A: Arena>(arena: &A, bytes: &[u8], p: u16) -> bool
 
 /// Clause 3: the mark, a side, the fields due to be zero, and on side 1 a stage from 1 on and a goal of the arena.
 fn is_shaped<A: Arena>(arena: &A, bytes: &[u8], p: u16) -> bool
-    ensures { result ≡ shaped (meaning arena.now) bytes.now p }
+    ensures { result ≡ shaped (A.meaning arena.now) bytes.now p }
 {
     if !is_mark(bytes, record_start(arena, p), 0x50) {
         return false;
@@ -212,8 +212,8 @@ fn is_shaped<A: Arena>(arena: &A, bytes: &[u8], p: u16) -> bool
 
 /// Whether the rank for goal `g` is below the number of positions, and is 0 exactly when the position is marked for it.
 fn is_ranked_for<A: Arena>(arena: &A, bytes: &[u8], p: u16, g: u16) -> bool
-    requires { (p < (meaning arena.now).size) × (g < (meaning arena.now).goals) }
-    ensures { result ≡ ranked_for (meaning arena.now) bytes.now p g }
+    requires { (p < (A.meaning arena.now).size) × (g < (A.meaning arena.now).goals) }
+    ensures { result ≡ ranked_for (A.meaning arena.now) bytes.now p g }
 {
     let rank = rank_of(arena, bytes, g, p);
     if rank >= arena.positions() {
@@ -224,8 +224,8 @@ fn is_ranked_for<A: Arena>(arena: &A, bytes: &[u8], p: u16, g: u16) -> bool
 
 /// Whether each rank is below the number of positions, and is 0 exactly when the position is marked for the goal.
 fn is_ranked<A: Arena>(arena: &A, bytes: &[u8], p: u16) -> bool
-    requires { p < (meaning arena.now).size }
-    ensures { result ≡ ranked (meaning arena.now) bytes.now p }
+    requires { p < (A.meaning arena.now).size }
+    ensures { result ≡ ranked (A.meaning arena.now) bytes.now p }
 {
     for g in 0..arena.goals() {
         if !is_ranked_for(arena, bytes, p, g) {
@@ -237,8 +237,8 @@ fn is_ranked<A: Arena>(arena: &A, bytes: &[u8], p: u16) -> bool
 
 /// Whether the field of goal `g` is a move that comes nearer to it.
 fn is_steered_for<A: Arena>(arena: &A, bytes: &[u8], p: u16, g: u16) -> bool
-    requires { p < (meaning arena.now).size }
-    ensures { result ≡ steered_for (meaning arena.now) bytes.now p g }
+    requires { p < (A.meaning arena.now).size }
+    ensures { result ≡ steered_for (A.meaning arena.now) bytes.now p g }
 {
     let q = goal_move_of(arena, bytes, g, p);
     if !is_move(arena, p, q) {
@@ -249,8 +249,8 @@ fn is_steered_for<A: Arena>(arena: &A, bytes: &[u8], p: u16, g: u16) -> bool
 
 /// Whether for each goal the field is a move that comes nearer to it.
 fn is_steered<A: Arena>(arena: &A, bytes: &[u8], p: u16) -> bool
-    requires { p < (meaning arena.now).size }
-    ensures { result ≡ steered (meaning arena.now) bytes.now p }
+    requires { p < (A.meaning arena.now).size }
+    ensures { result ≡ steered (A.meaning arena.now) bytes.now p }
 {
     for g in 0..arena.goals() {
         if !is_steered_for(arena, bytes, p, g) {
@@ -262,8 +262,8 @@ fn is_steered<A: Arena>(arena: &A, bytes: &[u8], p: u16) -> bool
 
 /// Whether the field of goal `g` names no move, and every move comes nearer to the goal.
 fn is_carried_for<A: Arena>(arena: &A, bytes: &[u8], p: u16, g: u16) -> bool
-    requires { p < (meaning arena.now).size }
-    ensures { result ≡ carried_for (meaning arena.now) bytes.now p g }
+    requires { p < (A.meaning arena.now).size }
+    ensures { result ≡ carried_for (A.meaning arena.now) bytes.now p g }
 {
     if goal_move_of(arena, bytes, g, p) != NO_MOVE {
         return false;
@@ -273,8 +273,8 @@ fn is_carried_for<A: Arena>(arena: &A, bytes: &[u8], p: u16, g: u16) -> bool
 
 /// Whether the fields name no move, and every move comes nearer to every goal.
 fn is_carried<A: Arena>(arena: &A, bytes: &[u8], p: u16) -> bool
-    requires { p < (meaning arena.now).size }
-    ensures { result ≡ carried (meaning arena.now) bytes.now p }
+    requires { p < (A.meaning arena.now).size }
+    ensures { result ≡ carried (A.meaning arena.now) bytes.now p }
 {
     for g in 0..arena.goals() {
         if !is_carried_for(arena, bytes, p, g) {
@@ -286,8 +286,8 @@ fn is_carried<A: Arena>(arena: &A, bytes: &[u8], p: u16) -> bool
 
 /// Clause 4, asked on side 0: each rank is below the number of positions, and is 0 exactly on a marked position.
 fn clause_4<A: Arena>(arena: &A, bytes: &[u8], p: u16) -> bool
-    requires { p < (meaning arena.now).size }
-    ensures { result ≡ clause_4 (meaning arena.now) bytes.now p }
+    requires { p < (A.meaning arena.now).size }
+    ensures { result ≡ clause_4 (A.meaning arena.now) bytes.now p }
 {
     if side_of(arena, bytes, p) != 0 {
         return true;
@@ -297,8 +297,8 @@ fn clause_4<A: Arena>(arena: &A, bytes: &[u8], p: u16) -> bool
 
 /// Clause 5, asked on side 0 where the controller owns: for each goal the field is a move that comes nearer to it.
 fn clause_5<A: Arena>(arena: &A, bytes: &[u8], p: u16) -> bool
-    requires { p < (meaning arena.now).size }
-    ensures { result ≡ clause_5 (meaning arena.now) bytes.now p }
+    requires { p < (A.meaning arena.now).size }
+    ensures { result ≡ clause_5 (A.meaning arena.now) bytes.now p }
 {
     if side_of(arena, bytes, p) != 0 {
         return true;
@@ -311,8 +311,8 @@ fn clause_5<A: Arena>(arena: &A, bytes: &[u8], p: u16) -> bool
 
 /// Clause 6, asked on side 0 where the traffic owns: the fields name no move, and every move comes nearer to every goal.
 fn clause_6<A: Arena>(arena: &A, bytes: &[u8], p: u16) -> bool
-    requires { p < (meaning arena.now).size }
-    ensures { result ≡ clause_6 (meaning arena.now) bytes.now p }
+    requires { p < (A.meaning arena.now).size }
+    ensures { result ≡ clause_6 (A.meaning arena.now) bytes.now p }
 {
     if side_of(arena, bytes, p) != 0 {
         return true;
@@ -325,8 +325,8 @@ fn clause_6<A: Arena>(arena: &A, bytes: &[u8], p: u16) -> bool
 
 /// Clause 7, asked on side 1 at approach 0: the position is unmarked for its goal. The record has passed clause 3.
 fn clause_7<A: Arena>(arena: &A, bytes: &[u8], p: u16) -> bool
-    requires { (p < (meaning arena.now).size) × (shaped (meaning arena.now) bytes.now p ≡ true) }
-    ensures { result ≡ clause_7 (meaning arena.now) bytes.now p }
+    requires { (p < (A.meaning arena.now).size) × (shaped (A.meaning arena.now) bytes.now p ≡ true) }
+    ensures { result ≡ clause_7 (A.meaning arena.now) bytes.now p }
 {
     if side_of(arena, bytes, p) != 1 {
         return true;
@@ -339,8 +339,8 @@ fn clause_7<A: Arena>(arena: &A, bytes: &[u8], p: u16) -> bool
 
 /// Clause 8, asked on side 1 where the traffic owns: the field is a move and a good step.
 fn clause_8<A: Arena>(arena: &A, bytes: &[u8], p: u16) -> bool
-    requires { p < (meaning arena.now).size }
-    ensures { result ≡ clause_8 (meaning arena.now) bytes.now p }
+    requires { p < (A.meaning arena.now).size }
+    ensures { result ≡ clause_8 (A.meaning arena.now) bytes.now p }
 {
     if side_of(arena, bytes, p) != 1 {
         return true;
@@ -357,8 +357,8 @@ fn clause_8<A: Arena>(arena: &A, bytes: &[u8], p: u16) -> bool
 
 /// Clause 9, asked on side 1 where the controller owns: the field names no move, and every move is a good step.
 fn clause_9<A: Arena>(arena: &A, bytes: &[u8], p: u16) -> bool
-    requires { p < (meaning arena.now).size }
-    ensures { result ≡ clause_9 (meaning arena.now) bytes.now p }
+    requires { p < (A.meaning arena.now).size }
+    ensures { result ≡ clause_9 (A.meaning arena.now) bytes.now p }
 {
     if side_of(arena, bytes, p) != 1 {
         return true;
@@ -374,8 +374,8 @@ fn clause_9<A: Arena>(arena: &A, bytes: &[u8], p: u16) -> bool
 
 /// The number of the first clause from the third on that fails at position `p`.
 pub(crate) fn first_failing_at<A: Arena>(arena: &A, bytes: &[u8], p: u16) -> Option<u8>
-    requires { p < (meaning arena.now).size }
-    ensures { result ≡ first_failing 3 (clauses (meaning arena.now) bytes.now p) }
+    requires { p < (A.meaning arena.now).size }
+    ensures { result ≡ first_failing 3 (clauses (A.meaning arena.now) bytes.now p) }
 {
     if !is_shaped(arena, bytes, p) {
         return Some(3);

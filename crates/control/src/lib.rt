@@ -1,3 +1,5 @@
+#![tactic(auto)]
+
 mod clauses;
 mod questions;
 mod runner;

@@ -13,15 +13,15 @@ pub(crate) fn is_between(low: u16, high: u16, x: u16) -> bool
 
 /// Whether the bytes have the length of a certificate of the arena.
 pub(crate) fn fits<A: Arena>(arena: &A, bytes: &[u8]) -> bool
-    ensures { result ≡ fit (meaning arena.now) bytes.now }
+    ensures { result ≡ fit (A.meaning arena.now) bytes.now }
 {
     bytes.len() == certificate_bytes(arena)
 }
 
 /// Whether position `p` belongs to `side`.
 pub(crate) fn is_owned<A: Arena>(arena: &A, p: u16, side: u16) -> bool
-    requires { p < (meaning arena.now).size }
-    ensures { result ≡ ((meaning arena.now).owner p == side) }
+    requires { p < (A.meaning arena.now).size }
+    ensures { result ≡ ((A.meaning arena.now).owner p == side) }
 {
     let Some(owner) = arena.owner(p) else {
         return false;
@@ -31,8 +31,8 @@ pub(crate) fn is_owned<A: Arena>(arena: &A, p: u16, side: u16) -> bool
 
 /// Whether position `p` is marked for goal `g`.
 pub(crate) fn is_marked<A: Arena>(arena: &A, p: u16, g: u16) -> bool
-    requires { (p < (meaning arena.now).size) × (g < (meaning arena.now).goals) }
-    ensures { result ≡ (meaning arena.now).marked p g }
+    requires { (p < (A.meaning arena.now).size) × (g < (A.meaning arena.now).goals) }
+    ensures { result ≡ (A.meaning arena.now).marked p g }
 {
     let Some(marked) = arena.marked(p, g) else {
         return false;
@@ -42,8 +42,8 @@ pub(crate) fn is_marked<A: Arena>(arena: &A, p: u16, g: u16) -> bool
 
 /// Whether `q` is one of the moves of position `p`.
 pub(crate) fn is_move<A: Arena>(arena: &A, p: u16, q: u16) -> bool
-    requires { p < (meaning arena.now).size }
-    ensures { result ≡ elem q ((meaning arena.now).moves p) }
+    requires { p < (A.meaning arena.now).size }
+    ensures { result ≡ elem q ((A.meaning arena.now).moves p) }
 {
     let Some(count) = arena.move_count(p) else {
         return false;

@@ -73,7 +73,7 @@ pub struct Runner<A> {
 impl<A: Arena> Runner<A> {
     /// Whose turn it is. A place outside the arena is nobody's turn, as idle is.
     fn turn(&self) -> Turn
-        ensures { result ≡ whose (meaning self.now.arena) (place_of self.now) }
+        ensures { result ≡ whose (A.meaning self.now.arena) (place_of self.now) }
     {
         if !self.running {
             return Turn::Nobody;
@@ -90,8 +90,8 @@ impl<A: Arena> Runner<A> {
 
     /// The aim once position `p` is left: if `p` is marked for it, the goal after it, and after the last the first.
     fn aim_after(&self, p: u16) -> u16
-        requires { (p < (meaning self.now.arena).size) × (self.now.aim < (meaning self.now.arena).goals) }
-        ensures { result ≡ next_aim (meaning self.now.arena) p self.now.aim }
+        requires { (p < (A.meaning self.now.arena).size) × (self.now.aim < (A.meaning self.now.arena).goals) }
+        ensures { result ≡ next_aim (A.meaning self.now.arena) p self.now.aim }
     {
         if !is_marked(&self.arena, p, self.aim) {
             return self.aim;
@@ -103,7 +103,7 @@ impl<A: Arena> Runner<A> {
 
     /// What a start answers.
     fn begin(&self, certificate: &[u8], p: u16) -> Result<(u16, u16), RunFault>
-        ensures { reply result ≡ answer (meaning self.now.arena) (place_of self.now) (start certificate.now p) }
+        ensures { reply result ≡ answer (A.meaning self.now.arena) (place_of self.now) (start certificate.now p) }
     {
         if !is_between(1, 4096, self.arena.positions()) {
             return Err(RunFault::Positions);
@@ -125,8 +125,8 @@ impl<A: Arena> Runner<A> {
 
     /// What a go answers at the controller's turn.
     fn make(&self, certificate: &[u8]) -> Result<(u16, u16), RunFault>
-        requires { turn (meaning self.now.arena) 0 (place_of self.now) ≡ true }
-        ensures { reply result ≡ answer (meaning self.now.arena) (place_of self.now) (go certificate.now) }
+        requires { turn (A.meaning self.now.arena) 0 (place_of self.now) ≡ true }
+        ensures { reply result ≡ answer (A.meaning self.now.arena) (place_of self.now) (go certificate.now) }
     {
         if !fits(&self.arena, certificate) {
             return Err(RunFault::Length);
@@ -140,8 +140,8 @@ impl<A: Arena> Runner<A> {
 
     /// What a move of the traffic to `q` answers at its turn.
     fn follow(&self, certificate: &[u8], q: u16) -> Result<(u16, u16), RunFault>
-        requires { turn (meaning self.now.arena) 1 (place_of self.now) ≡ true }
-        ensures { reply result ≡ answer (meaning self.now.arena) (place_of self.now) (moved certificate.now q) }
+        requires { turn (A.meaning self.now.arena) 1 (place_of self.now) ≡ true }
+        ensures { reply result ≡ answer (A.meaning self.now.arena) (place_of self.now) (moved certificate.now q) }
     {
         if !fits(&self.arena, certificate) {
             return Err(RunFault::Length);
@@ -155,7 +155,7 @@ impl<A: Arena> Runner<A> {
     /// One event with a certificate shown: the only place where a runner changes. An accepted event answers the new
     /// position and aim; a refused one leaves the runner as it was.
     pub fn on(&mut self, certificate: &[u8], event: Event) -> Result<(u16, u16), RunFault>
-        ensures { Called (meaning self.old.arena) self.old (call_of certificate.now event) result self.new }
+        ensures { Called (A.meaning self.old.arena) self.old (call_of certificate.now event) result self.new }
     {
         let (position, aim) = match (self.turn(), event) {
             (_, Event::Start(p)) => self.begin(certificate, p)?,
@@ -174,21 +174,21 @@ impl<A: Arena> Runner<A> {
 
     /// Puts the runner at position `p` with aim 0.
     pub fn start(&mut self, certificate: &[u8], p: u16) -> Result<(u16, u16), RunFault>
-        ensures { Called (meaning self.old.arena) self.old (start certificate.now p) result self.new }
+        ensures { Called (A.meaning self.old.arena) self.old (start certificate.now p) result self.new }
     {
         self.on(certificate, Event::Start(p))
     }
 
     /// Makes the controller's move: the one in the aim's field.
     pub fn go(&mut self, certificate: &[u8]) -> Result<(u16, u16), RunFault>
-        ensures { Called (meaning self.old.arena) self.old (go certificate.now) result self.new }
+        ensures { Called (A.meaning self.old.arena) self.old (go certificate.now) result self.new }
     {
         self.on(certificate, Event::Go)
     }
 
     /// Follows the traffic's move to position `q`.
     pub fn moved(&mut self, certificate: &[u8], q: u16) -> Result<(u16, u16), RunFault>
-        ensures { Called (meaning self.old.arena) self.old (moved certificate.now q) result self.new }
+        ensures { Called (A.meaning self.old.arena) self.old (moved certificate.now q) result self.new }
     {
         self.on(certificate, Event::Moved(q))
     }

@@ -38,7 +38,7 @@ impl CheckFault {
 
 /// The number of records with side 0.
 fn count_given<A: Arena>(arena: &A, bytes: &[u8]) -> u16
-    ensures { result ≡ given (meaning arena.now) bytes.now }
+    ensures { result ≡ given (A.meaning arena.now) bytes.now }
 {
     let mut count = 0;
     for p in 0..arena.positions() {
@@ -51,7 +51,7 @@ fn count_given<A: Arena>(arena: &A, bytes: &[u8]) -> u16
 
 /// The clauses from the third on, position by position.
 fn walk_records<A: Arena>(arena: &A, bytes: &[u8]) -> Result<u16, CheckFault>
-    ensures { verdict result ≡ walk (meaning arena.now) bytes.now (upto (meaning arena.now).size) (accepted (given (meaning arena.now) bytes.now)) }
+    ensures { verdict result ≡ walk (A.meaning arena.now) bytes.now (upto (A.meaning arena.now).size) (accepted (given (A.meaning arena.now) bytes.now)) }
 {
     for position in 0..arena.positions() {
         if let Some(clause) = first_failing_at(arena, bytes, position) {
@@ -63,7 +63,7 @@ fn walk_records<A: Arena>(arena: &A, bytes: &[u8]) -> Result<u16, CheckFault>
 
 /// What check answers.
 fn judge_all<A: Arena>(arena: &A, bytes: &[u8]) -> Result<u16, CheckFault>
-    ensures { verdict result ≡ checked (meaning arena.now) bytes.now }
+    ensures { verdict result ≡ checked (A.meaning arena.now) bytes.now }
 {
     if !is_between(1, 4096, arena.positions()) {
         return Err(CheckFault::Positions);
@@ -91,8 +91,8 @@ fn judge_all<A: Arena>(arena: &A, bytes: &[u8]) -> Result<u16, CheckFault>
 
 /// Whether the bytes are a certificate of the arena; answers the number of positions that it gives to the controller.
 pub fn check<A: Arena>(arena: &A, certificate: &[u8]) -> Result<u16, CheckFault>
-    ensures answer { verdict result ≡ checked (meaning arena.now) certificate.now }
-    ensures promise { (c : ℕ) → result ≡ Ok c → Promise (meaning arena.now) certificate.now }
+    ensures answer { verdict result ≡ checked (A.meaning arena.now) certificate.now }
+    ensures promise { (c : ℕ) → result ≡ Ok c → Promise (A.meaning arena.now) certificate.now }
 {
     judge_all(arena, certificate)
 }

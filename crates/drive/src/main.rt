@@ -1,3 +1,5 @@
+#![tactic(auto)]
+
 use anyhow::anyhow;
 use control::{CheckFault, Event, Runner, check};
 use std::{env, fs};

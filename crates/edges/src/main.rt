@@ -1,3 +1,5 @@
+#![tactic(auto)]
+
 use anyhow::anyhow;
 use solver::{SolveFault, solve};
 use std::fs;

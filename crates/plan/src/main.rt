@@ -1,3 +1,5 @@
+#![tactic(auto)]
+
 use std::io::Read;
 
 /// As many bytes as the longest strip has, and one more: a longer input has its fault within these.

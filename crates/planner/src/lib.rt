@@ -1,3 +1,5 @@
+#![tactic(auto)]
+
 mod faults;
 mod plants;
 mod program;

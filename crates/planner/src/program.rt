@@ -20,13 +20,13 @@ fn plan_in<A: Arena>(
     certificate: &mut [u8],
     work: &mut [u16],
 ) -> Result<String, AllocError>
-    requires some { 0 < (meaning arena.now).size }
-    requires few { (meaning arena.now).size ≤ 4096 }
-    requires aimed { 0 < (meaning arena.now).goals }
-    requires aims { (meaning arena.now).goals ≤ 8 }
-    requires fits { length certificate.old ≡ certificate_bytes (meaning arena.now) }
-    requires room { length work.old ≡ work_numbers (meaning arena.now) }
-    ensures { IfOk result (λ s. string_bytes s ≡ planned_text (meaning arena.now)) }
+    requires some { 0 < (A.meaning arena.now).size }
+    requires few { (A.meaning arena.now).size ≤ 4096 }
+    requires aimed { 0 < (A.meaning arena.now).goals }
+    requires aims { (A.meaning arena.now).goals ≤ 8 }
+    requires fits { length certificate.old ≡ certificate_bytes (A.meaning arena.now) }
+    requires room { length work.old ≡ work_numbers (A.meaning arena.now) }
+    ensures { IfOk result (λ s. string_bytes s ≡ planned_text (A.meaning arena.now)) }
 {
     let Ok((controlled, stages)) = solve(arena, certificate, work) else {
         unreachable()
@@ -36,11 +36,11 @@ fn plan_in<A: Arena>(
 
 /// The plan of an arena of a size that solve takes.
 fn planned<A: Arena>(heap: Global, arena: &A) -> Result<String, AllocError>
-    requires some { 0 < (meaning arena.now).size }
-    requires few { (meaning arena.now).size ≤ 4096 }
-    requires aimed { 0 < (meaning arena.now).goals }
-    requires aims { (meaning arena.now).goals ≤ 8 }
-    ensures { IfOk result (λ s. string_bytes s ≡ planned_text (meaning arena.now)) }
+    requires some { 0 < (A.meaning arena.now).size }
+    requires few { (A.meaning arena.now).size ≤ 4096 }
+    requires aimed { 0 < (A.meaning arena.now).goals }
+    requires aims { (A.meaning arena.now).goals ≤ 8 }
+    ensures { IfOk result (λ s. string_bytes s ≡ planned_text (A.meaning arena.now)) }
 {
     let numbers = arena.positions() as usize * (arena.goals() as usize + 6);
     let mut certificate = vec![in heap; 0u8; certificate_bytes(arena)]?;

@@ -1,3 +1,5 @@
+#![tactic(auto)]
+
 ghost use Rattle.std.specs.Prelude.{◌≡◌, ℕ, [], ◌∷◌, ◌++◌, is_ok, IfOk, string_bytes, codes, decimal, OnOk};
 ghost use Rattle.report.specs.Plan.{controller_text, decision_text, goal_text, move_text, plan_text, side_text, traffic_text};
 ghost use Rattle.report.specs.Text.{refusal_text};
@@ -15,7 +17,7 @@ pub fn plan<A: Arena>(
     controlled: u16,
     stages: u16,
 ) -> Result<String, AllocError>
-    ensures { IfOk result (λ s. string_bytes s ≡ plan_text (meaning arena.now) bytes.now controlled stages) }
+    ensures { IfOk result (λ s. string_bytes s ≡ plan_text (A.meaning arena.now) bytes.now controlled stages) }
 {
     let n = arena.positions();
     let k = arena.goals();
@@ -33,7 +35,7 @@ fn push_decision<A: Arena>(
     bytes: &[u8],
     p: u16,
 ) -> Result<(), AllocError>
-    ensures { OnOk result (string_bytes out.new ≡ string_bytes out.old ++ decision_text (meaning arena.now) bytes.now p) }
+    ensures { OnOk result (string_bytes out.new ≡ string_bytes out.old ++ decision_text (A.meaning arena.now) bytes.now p) }
 {
     push_number(out, p)?;
     push_side(out, arena, bytes, p)?;
@@ -43,7 +45,7 @@ fn push_decision<A: Arena>(
 
 // Adds the decisions of the side that position `p` is given to.
 fn push_side<A: Arena>(out: &mut String, arena: &A, bytes: &[u8], p: u16) -> Result<(), AllocError>
-    ensures { OnOk result (string_bytes out.new ≡ string_bytes out.old ++ side_text (meaning arena.now) bytes.now p) }
+    ensures { OnOk result (string_bytes out.new ≡ string_bytes out.old ++ side_text (A.meaning arena.now) bytes.now p) }
 {
     if side_of(arena, bytes, p) == 0 {
         push_controller(out, arena, bytes, p)?;
@@ -60,7 +62,7 @@ fn push_controller<A: Arena>(
     bytes: &[u8],
     p: u16,
 ) -> Result<(), AllocError>
-    ensures { OnOk result (string_bytes out.new ≡ string_bytes out.old ++ controller_text (meaning arena.now) bytes.now p) }
+    ensures { OnOk result (string_bytes out.new ≡ string_bytes out.old ++ controller_text (A.meaning arena.now) bytes.now p) }
 {
     out.push_str(" C")?;
     for g in 0..arena.goals() {
@@ -77,7 +79,7 @@ fn push_traffic<A: Arena>(
     bytes: &[u8],
     p: u16,
 ) -> Result<(), AllocError>
-    ensures { OnOk result (string_bytes out.new ≡ string_bytes out.old ++ traffic_text (meaning arena.now) bytes.now p) }
+    ensures { OnOk result (string_bytes out.new ≡ string_bytes out.old ++ traffic_text (A.meaning arena.now) bytes.now p) }
 {
     push_stage(
         out,

@@ -1,3 +1,5 @@
+#![tactic(auto)]
+
 mod faults;
 mod marks;
 mod row;

@@ -1,3 +1,5 @@
+#![tactic(auto)]
+
 mod closed;
 mod loading;
 mod sheet;

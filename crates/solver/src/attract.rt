@@ -41,8 +41,8 @@ fn is_sought(work: &[u16], n: u16, at: usize, i: u16, other: bool, p: u16) -> bo
 
 // Whether some move of position `p` lies in the set that is looked for.
 fn some_move<A: Arena>(a: &A, work: &[u16], at: usize, i: u16, other: bool, p: u16) -> bool
-    requires { (p < (meaning a.now).size) × ((Room (meaning a.now).size at work.now) × (i < (meaning a.now).size)) }
-    ensures { result ≡ any (sought (meaning a.now).size work.now at i other) ((meaning a.now).moves p) }
+    requires { (p < (A.meaning a.now).size) × ((Room (A.meaning a.now).size at work.now) × (i < (A.meaning a.now).size)) }
+    ensures { result ≡ any (sought (A.meaning a.now).size work.now at i other) ((A.meaning a.now).moves p) }
 {
     let n = a.positions();
     let Some(count) = a.move_count(p) else {
@@ -61,8 +61,8 @@ fn some_move<A: Arena>(a: &A, work: &[u16], at: usize, i: u16, other: bool, p: u
 
 // Whether the round after round `i` of the side's attractor adds position `p`.
 fn is_drawn_in<A: Arena>(a: &A, work: &[u16], at: usize, i: u16, side: u16, p: u16) -> bool
-    requires { (p < (meaning a.now).size) × ((Room (meaning a.now).size at work.now) × (i < (meaning a.now).size)) }
-    ensures { result ≡ drawn_in (meaning a.now) side (present (meaning a.now).size work.now) (by_round (meaning a.now).size work.now at i) p }
+    requires { (p < (A.meaning a.now).size) × ((Room (A.meaning a.now).size at work.now) × (i < (A.meaning a.now).size)) }
+    ensures { result ≡ drawn_in (A.meaning a.now) side (present (A.meaning a.now).size work.now) (by_round (A.meaning a.now).size work.now at i) p }
 {
     let n = a.positions();
     if !is_present(work, n, p) {
@@ -80,10 +80,10 @@ fn is_drawn_in<A: Arena>(a: &A, work: &[u16], at: usize, i: u16, side: u16, p: u
 
 // The round after round `i`, in place; whether it has added a position.
 fn one_round<A: Arena>(a: &A, work: &mut [u16], at: usize, i: u16, side: u16) -> bool
-    requires room { Room (meaning a.now).size at work.old }
-    requires ranked { Ranked (meaning a.now).size at i work.old }
-    ensures column { Column (meaning a.now).size at (next (meaning a.now) side at i work.old) work.old work.new }
-    ensures ended { result ≡ false → (k : ℕ) → k < (meaning a.now).size → cell work.new at k ≡ cell work.old at k }
+    requires room { Room (A.meaning a.now).size at work.old }
+    requires ranked { Ranked (A.meaning a.now).size at i work.old }
+    ensures column { Column (A.meaning a.now).size at (next (A.meaning a.now) side at i work.old) work.old work.new }
+    ensures ended { result ≡ false → (k : ℕ) → k < (A.meaning a.now).size → cell work.new at k ≡ cell work.old at k }
 {
     let n = a.positions();
     let mut more = false;
@@ -100,9 +100,9 @@ fn one_round<A: Arena>(a: &A, work: &mut [u16], at: usize, i: u16, side: u16) ->
 
 // The side's attractor of the positions that are numbered in the column at `at`, inside those that are present: every rank.
 pub(crate) fn attract<A: Arena>(a: &A, work: &mut [u16], at: usize, side: u16)
-    requires room { Room (meaning a.now).size at work.old }
-    requires start { (k : ℕ) → k < (meaning a.now).size → cell work.old at k ≤ 1 }
-    ensures { Column (meaning a.now).size at (λ k. code (rank (meaning a.now) side (present (meaning a.now).size work.old) (numbered (meaning a.now).size work.old at) k)) work.old work.new }
+    requires room { Room (A.meaning a.now).size at work.old }
+    requires start { (k : ℕ) → k < (A.meaning a.now).size → cell work.old at k ≤ 1 }
+    ensures { Column (A.meaning a.now).size at (λ k. code (rank (A.meaning a.now) side (present (A.meaning a.now).size work.old) (numbered (A.meaning a.now).size work.old at) k)) work.old work.new }
 {
     let n = a.positions();
     for i in 0..n {

@@ -72,8 +72,8 @@ fn is_qualified(work: &[u16], n: u16, side: u16, from: usize, p: u16, q: u16) ->
 
 // Whether the side owns position `p`.
 fn is_owner<A: Arena>(a: &A, side: u16, p: u16) -> bool
-    requires { p < (meaning a.now).size }
-    ensures { result ≡ ((meaning a.now).owner p == side) }
+    requires { p < (A.meaning a.now).size }
+    ensures { result ≡ ((A.meaning a.now).owner p == side) }
 {
     let Some(owner) = a.owner(p) else {
         return false;
@@ -83,8 +83,8 @@ fn is_owner<A: Arena>(a: &A, side: u16, p: u16) -> bool
 
 // How many moves position `p` has.
 fn count_moves<A: Arena>(a: &A, p: u16) -> u16
-    requires { p < (meaning a.now).size }
-    ensures { result ≡ length ((meaning a.now).moves p) }
+    requires { p < (A.meaning a.now).size }
+    ensures { result ≡ length ((A.meaning a.now).moves p) }
 {
     let Some(count) = a.move_count(p) else {
         return 0;
@@ -94,9 +94,9 @@ fn count_moves<A: Arena>(a: &A, p: u16) -> u16
 
 // The `j`-th move of position `p`.
 fn move_at<A: Arena>(a: &A, p: u16, j: u16) -> u16
-    requires { (p < (meaning a.now).size) × (j < length ((meaning a.now).moves p)) }
-    ensures is { result ≡ slice_index ((meaning a.now).moves p) j }
-    ensures below { result < (meaning a.now).size }
+    requires { (p < (A.meaning a.now).size) × (j < length ((A.meaning a.now).moves p)) }
+    ensures is { result ≡ slice_index ((A.meaning a.now).moves p) j }
+    ensures below { result < (A.meaning a.now).size }
 {
     let Some(q) = a.nth_move(p, j) else {
         return 0;
@@ -107,8 +107,8 @@ fn move_at<A: Arena>(a: &A, p: u16, j: u16) -> u16
 // The side's decision at each position, in the column at `at`: where the side owns the position, the lowest of its moves
 // that qualifies.
 pub(crate) fn decide<A: Arena>(a: &A, work: &mut [u16], side: u16, from: usize, at: usize)
-    requires { Beside (meaning a.now).size from at work.old }
-    ensures { Column (meaning a.now).size at (decision (meaning a.now) work.old side from) work.old work.new }
+    requires { Beside (A.meaning a.now).size from at work.old }
+    ensures { Column (A.meaning a.now).size at (decision (A.meaning a.now) work.old side from) work.old work.new }
 {
     let n = a.positions();
     'positions: for p in 0..n {

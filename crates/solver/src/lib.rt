@@ -1,3 +1,5 @@
+#![tactic(auto)]
+
 ghost use Rattle.std.specs.Prelude.{◌≡◌, ◌+◌, ◌*◌, ◌≤◌, ◌&&◌, ◌++◌, length, drop, replicate, nat_le};
 ghost use Rattle.arena.specs.Sets.{between};
 ghost use Rattle.solver.specs.Refused.{outcome};
@@ -67,9 +69,9 @@ pub fn solve<A: Arena>(
     certificate: &mut [u8],
     work: &mut [u16],
 ) -> Result<(u16, u16), SolveFault>
-    ensures answer { outcome result ≡ solve (meaning a.now) certificate.old work.old }
-    ensures bytes { certificate.new ≡ bytes_after (meaning a.now) certificate.old work.old }
-    ensures numbers { work.new ≡ work_after (meaning a.now) certificate.old work.old }
+    ensures answer { outcome result ≡ solve (A.meaning a.now) certificate.old work.old }
+    ensures bytes { certificate.new ≡ bytes_after (A.meaning a.now) certificate.old work.old }
+    ensures numbers { work.new ≡ work_after (A.meaning a.now) certificate.old work.old }
 {
     let n = a.positions();
     let goals = a.goals();

@@ -39,13 +39,13 @@ fn count_present(work: &[u16], n: u16) -> u16
 
 // The ranks and moves of all goals in all records.
 fn write_goals<A: Arena>(a: &A, work: &mut [u16], out: &mut [u8])
-    requires enough { Enough (meaning a.now) work.old }
-    requires decided { Decided (meaning a.now) work.old }
-    requires room { Records (meaning a.now).size (record_bytes (meaning a.now)) out.old }
-    requires fronts { Rows (meaning a.now) 10 out.old }
-    ensures rows { Rows (meaning a.now) (record_bytes (meaning a.now)) out.new }
-    ensures kept { Kept (meaning a.now) out.old out.new }
-    ensures beyond { Beyond (meaning a.now) work.old work.new }
+    requires enough { Enough (A.meaning a.now) work.old }
+    requires decided { Decided (A.meaning a.now) work.old }
+    requires room { Records (A.meaning a.now).size (record_bytes (A.meaning a.now)) out.old }
+    requires fronts { Rows (A.meaning a.now) 10 out.old }
+    ensures rows { Rows (A.meaning a.now) (record_bytes (A.meaning a.now)) out.new }
+    ensures kept { Kept (A.meaning a.now) out.old out.new }
+    ensures beyond { Beyond (A.meaning a.now) work.old work.new }
 {
     let n = a.positions();
     let goals = a.goals();
@@ -60,11 +60,11 @@ fn write_goals<A: Arena>(a: &A, work: &mut [u16], out: &mut [u8])
 
 // The certificate, from the work memory after all stages.
 fn write_certificate<A: Arena>(a: &A, work: &mut [u16], out: &mut [u8])
-    requires enough { Enough (meaning a.now) work.old }
-    requires ready { Ready (meaning a.now) work.old }
-    requires fits { certificate_bytes (meaning a.now) ≤ length out.old }
-    ensures bytes { Written (meaning a.now) out.old out.new }
-    ensures beyond { Beyond (meaning a.now) work.old work.new }
+    requires enough { Enough (A.meaning a.now) work.old }
+    requires ready { Ready (A.meaning a.now) work.old }
+    requires fits { certificate_bytes (A.meaning a.now) ≤ length out.old }
+    ensures bytes { Written (A.meaning a.now) out.old out.new }
+    ensures beyond { Beyond (A.meaning a.now) work.old work.new }
 {
     let n = a.positions();
     let goals = a.goals();
@@ -79,11 +79,11 @@ fn write_certificate<A: Arena>(a: &A, work: &mut [u16], out: &mut [u8])
 
 // The whole work, in memories that are long enough: how many positions are the controller's, and how many stages there are.
 pub(crate) fn plan<A: Arena>(a: &A, out: &mut [u8], work: &mut [u16]) -> (u16, u16)
-    requires enough { Enough (meaning a.now) work.old }
-    requires fits { certificate_bytes (meaning a.now) ≤ length out.old }
-    ensures answer { result ≡ (controlled (meaning a.now), stages (meaning a.now)) }
-    ensures bytes { Written (meaning a.now) out.old out.new }
-    ensures beyond { Beyond (meaning a.now) work.old work.new }
+    requires enough { Enough (A.meaning a.now) work.old }
+    requires fits { certificate_bytes (A.meaning a.now) ≤ length out.old }
+    ensures answer { result ≡ (controlled (A.meaning a.now), stages (A.meaning a.now)) }
+    ensures bytes { Written (A.meaning a.now) out.old out.new }
+    ensures beyond { Beyond (A.meaning a.now) work.old work.new }
 {
     let n = a.positions();
     zero(work, n as usize);

@@ -17,8 +17,8 @@ fn number(member: bool) -> u16
 
 // Whether position `p` is present and marked for goal `g`.
 fn is_target<A: Arena>(a: &A, work: &[u16], p: u16, g: u16) -> bool
-    requires { (p < (meaning a.now).size) × ((g < (meaning a.now).goals) × ((meaning a.now).size ≤ length work.now)) }
-    ensures { result ≡ target (meaning a.now) (present (meaning a.now).size work.now) g p }
+    requires { (p < (A.meaning a.now).size) × ((g < (A.meaning a.now).goals) × ((A.meaning a.now).size ≤ length work.now)) }
+    ensures { result ≡ target (A.meaning a.now) (present (A.meaning a.now).size work.now) g p }
 {
     let n = a.positions();
     let Some(marked) = a.marked(p, g) else {
@@ -30,9 +30,9 @@ fn is_target<A: Arena>(a: &A, work: &[u16], p: u16, g: u16) -> bool
 
 // The positions present that are marked for goal `g`, in the column at `at`.
 fn mark_target<A: Arena>(a: &A, work: &mut [u16], at: usize, g: u16)
-    requires room { Room (meaning a.now).size at work.old }
-    requires goal { g < (meaning a.now).goals }
-    ensures { Column (meaning a.now).size at (λ k. (if target (meaning a.now) (present (meaning a.now).size work.old) g k then 1 else 0)) work.old work.new }
+    requires room { Room (A.meaning a.now).size at work.old }
+    requires goal { g < (A.meaning a.now).goals }
+    ensures { Column (A.meaning a.now).size at (λ k. (if target (A.meaning a.now) (present (A.meaning a.now).size work.old) g k then 1 else 0)) work.old work.new }
 {
     let n = a.positions();
     for p in 0..n {
@@ -42,9 +42,9 @@ fn mark_target<A: Arena>(a: &A, work: &mut [u16], at: usize, g: u16)
 
 // The controller's attractor of goal `g` inside what is present, in the column at `at`.
 fn reach<A: Arena>(a: &A, work: &mut [u16], at: usize, g: u16)
-    requires room { Room (meaning a.now).size at work.old }
-    requires goal { g < (meaning a.now).goals }
-    ensures { Column (meaning a.now).size at (λ k. code (rank (meaning a.now) 0 (present (meaning a.now).size work.old) (target (meaning a.now) (present (meaning a.now).size work.old) g) k)) work.old work.new }
+    requires room { Room (A.meaning a.now).size at work.old }
+    requires goal { g < (A.meaning a.now).goals }
+    ensures { Column (A.meaning a.now).size at (λ k. code (rank (A.meaning a.now) 0 (present (A.meaning a.now).size work.old) (target (A.meaning a.now) (present (A.meaning a.now).size work.old) g) k)) work.old work.new }
 {
     mark_target(a, work, at, g);
     attract(a, work, at, 0);
@@ -86,8 +86,8 @@ fn mark_core(work: &mut [u16], n: u16, from: usize, at: usize)
 
 // The lowest goal with a core inside what is present; the columns of the goals that were asked have their ranks.
 fn missed_goal<A: Arena>(a: &A, work: &mut [u16]) -> Option<u16>
-    requires { Enough (meaning a.now) work.old }
-    ensures { Searched (meaning a.now) work.old work.new result }
+    requires { Enough (A.meaning a.now) work.old }
+    ensures { Searched (A.meaning a.now) work.old work.new result }
 {
     let n = a.positions();
     let goals = a.goals();
@@ -132,11 +132,11 @@ fn give_approach(work: &mut [u16], n: u16)
 
 // Stage `s`, for goal `g` whose ranks stand at `from`: what the traffic attracts to the core goes to the traffic.
 fn take_stage<A: Arena>(a: &A, work: &mut [u16], from: usize, s: u16, g: u16)
-    requires enough { Enough (meaning a.now) work.old }
-    requires source { Room (meaning a.now).size from work.old }
-    requires apart { 4 * (meaning a.now).size ≤ from }
-    requires ranks { Ranks (meaning a.now) (present (meaning a.now).size work.old) g work.old from }
-    ensures { Staged (meaning a.now) s g work.old work.new }
+    requires enough { Enough (A.meaning a.now) work.old }
+    requires source { Room (A.meaning a.now).size from work.old }
+    requires apart { 4 * (A.meaning a.now).size ≤ from }
+    requires ranks { Ranks (A.meaning a.now) (present (A.meaning a.now).size work.old) g work.old from }
+    ensures { Staged (A.meaning a.now) s g work.old work.new }
 {
     let n = a.positions();
     let near = 3 * n as usize;
@@ -149,11 +149,11 @@ fn take_stage<A: Arena>(a: &A, work: &mut [u16], from: usize, s: u16, g: u16)
 
 // All stages, from a first column of zeros: how many there are.
 pub(crate) fn run_stages<A: Arena>(a: &A, work: &mut [u16]) -> u16
-    requires enough { Enough (meaning a.now) work.old }
-    requires fresh { (k : ℕ) → k < (meaning a.now).size → slice_index work.old k ≡ 0 }
-    ensures count { result ≡ stages (meaning a.now) }
-    ensures ready { Ready (meaning a.now) work.new }
-    ensures beyond { Beyond (meaning a.now) work.old work.new }
+    requires enough { Enough (A.meaning a.now) work.old }
+    requires fresh { (k : ℕ) → k < (A.meaning a.now).size → slice_index work.old k ≡ 0 }
+    ensures count { result ≡ stages (A.meaning a.now) }
+    ensures ready { Ready (A.meaning a.now) work.new }
+    ensures beyond { Beyond (A.meaning a.now) work.old work.new }
 {
     let n = a.positions();
     let mut s = 0;

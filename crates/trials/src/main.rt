@@ -1,3 +1,5 @@
+#![tactic(auto)]
+
 use anyhow::anyhow;
 use control::{CheckFault, RunFault, Runner, check};
 use std::fs;

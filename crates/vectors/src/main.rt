@@ -1,3 +1,5 @@
+#![tactic(auto)]
+
 use std::fs;
 
 /// Prints what the program answers to one strip of the data folder, under the strip's name.
