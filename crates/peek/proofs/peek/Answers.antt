@@ -12,14 +12,14 @@ returns c =
     let s = sheet_of c.args.sheet.now in
     let seat = c.args.seat in
     let p = c.args.position in
-    let slip = c.in-ok-slip.slip in
-    let took = c.in-ok-slip.ensures in
+    let slip = c.in_ok-slip.slip in
+    let took = c.in_ok-slip.ensures in
     let taken = told_accepted (λ _. unspent seat p) (take_answer s seat p) slip took.answer in
     let long : length s.out ≡ s.size = omega (arith, length-map (vec_items c.args.sheet.now.slots) (λ h. h.seat), c.args.sheet.now.slots.ok.0) in
     record {
       answer = sym (ap (told (λ _. done)) taken.1);
       sheet =
-          c.let-go.ensures.sheet
+          c.let_go.ensures.sheet
           ∙ ap (λ t. let_go_after t slip.seat slip.position) took.sheet
           ∙ ap (λ w. let_go_after (take_after s seat p) w.seat w.position) taken.2
           ∙ taken_and_let_go s seat p long taken.0 taken.1;

@@ -10,6 +10,6 @@ loop-p-preserved g c =
     let bs = c.args.bytes.now in
     let p = c.loop-p.p in
     let more = concat_more (decision_text m bs) p in
-    let put = c.in-ok-push-decision.ensures in
-    let joined = append_assoc (string_bytes c.in-ok-out.out) (concat (decision_text m bs) (upto p)) (decision_text m bs p) in
+    let put = c.in_ok-push_decision.ensures in
+    let joined = append_assoc (string_bytes c.in_ok-out.out) (concat (decision_text m bs) (upto p)) (decision_text m bs p) in
     cc

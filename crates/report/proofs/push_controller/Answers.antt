@@ -12,9 +12,9 @@ loop-g-preserved g c =
     let p = c.args.p in
     let i = c.loop-g.g in
     let more = concat_more (goal_text m bs p) i in
-    let rank = c.in-ok-push-rank.ensures in
-    let move = c.in-ok-push-move.ensures in
-    let joined = goal_joined (string_bytes c.push-str.new.self) (concat (goal_text m bs p) (upto i)) (decimal (rank_of m bs i p)) (move_text (goal_move_of m bs i p)) in
+    let rank = c.in_ok-push_rank.ensures in
+    let move = c.in_ok-push_move.ensures in
+    let joined = goal_joined (string_bytes c.push_str.new.self) (concat (goal_text m bs p) (upto i)) (decimal (rank_of m bs i p)) (move_text (goal_move_of m bs i p)) in
     cc
 
 pub returns : goal.returns
@@ -24,6 +24,6 @@ returns g c =
     let p = c.args.p in
     let all : c.loop-g.g ≡ m.goals = omega arith in
     let every = ap (λ n. concat (goal_text m bs p) (upto n)) all in
-    let letter = c.in-ok-push-str.ensures.bytes in
+    let letter = c.in_ok-push_str.ensures.bytes in
     let joined = append_assoc (string_bytes c.args.out.now) (codes " C") (concat (goal_text m bs p) (upto m.goals)) in
     cc

@@ -9,7 +9,7 @@ returns g c =
     let m = g.A.Arena.meaning c.args.arena.now in
     let bs = c.args.bytes.now in
     let p = c.args.p in
-    let front = c.in-ok-push-stage.ensures in
-    let move = c.in-ok-push-move.ensures in
+    let front = c.in_ok-push_stage.ensures in
+    let move = c.in_ok-push_move.ensures in
     let joined = traffic_joined (string_bytes c.args.out.now) (decimal (goal_of m bs p)) (decimal (stage_of m bs p)) (decimal (approach_of m bs p)) (move_text (move_of m bs p)) in
     cc

@@ -4,17 +4,17 @@ use Rattle.control.specs.Accept.{good_step_of}
 use Rattle.control.proofs.Loops.{all_stopped, all_passed, all_done}
 use Rattle.control.proofs.clauses.are_all_good_steps.Goals as goal
 
-pub returns-then-not-is-good-step : goal.returns-then-not-is-good-step
-returns-then-not-is-good-step g c =
+pub returns-then-not-is_good_step : goal.returns-then-not-is_good_step
+returns-then-not-is_good_step g c =
     let m = g.A.Arena.meaning c.args.arena.now in
-    let at = move_answered m c.args.p c.loop-j.j c.in-Some-nth-move.q c.in-Some-nth-move.ensures in
-    all_stopped (good_step_of m c.args.bytes.now c.args.p) (m.moves c.args.p) c.loop-j.j c.in-Some-nth-move.q c.loop-j.invariant at.0 at.1 c.if-not-is-good-step.ensures
+    let at = move_answered m c.args.p c.loop-j.j c.in-Some-nth_move.q c.in-Some-nth_move.ensures in
+    all_stopped (good_step_of m c.args.bytes.now c.args.p) (m.moves c.args.p) c.loop-j.j c.in-Some-nth_move.q c.loop-j.invariant at.0 at.1 c.if-not-is_good_step.ensures
 
 pub loop-j-preserved : goal.loop-j-preserved
 loop-j-preserved g c =
     let m = g.A.Arena.meaning c.args.arena.now in
-    let at = move_answered m c.args.p c.loop-j.j c.in-Some-nth-move.q c.in-Some-nth-move.ensures in
-    all_passed (good_step_of m c.args.bytes.now c.args.p) (m.moves c.args.p) c.loop-j.j c.in-Some-nth-move.q c.loop-j.invariant at.0 at.1 c.if-not-is-good-step.ensures
+    let at = move_answered m c.args.p c.loop-j.j c.in-Some-nth_move.q c.in-Some-nth_move.ensures in
+    all_passed (good_step_of m c.args.bytes.now c.args.p) (m.moves c.args.p) c.loop-j.j c.in-Some-nth_move.q c.loop-j.invariant at.0 at.1 c.if-not-is_good_step.ensures
 
 pub returns : goal.returns
 returns g c =

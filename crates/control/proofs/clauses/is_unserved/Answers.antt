@@ -3,14 +3,14 @@ use Rattle.control.specs.Accept.{unserved_for}
 use Rattle.control.proofs.Loops.{upto_stopped, upto_passed, upto_done}
 use Rattle.control.proofs.clauses.is_unserved.Goals as goal
 
-pub returns-then-not-is-unserved-for : goal.returns-then-not-is-unserved-for
-returns-then-not-is-unserved-for g c =
+pub returns-then-not-is_unserved_for : goal.returns-then-not-is_unserved_for
+returns-then-not-is_unserved_for g c =
     let m = g.A.Arena.meaning c.args.arena.now in
-    upto_stopped (unserved_for m c.args.bytes.now c.args.p) m.goals c.loop-g.g (omega arith) c.if-not-is-unserved-for.ensures
+    upto_stopped (unserved_for m c.args.bytes.now c.args.p) m.goals c.loop-g.g (omega arith) c.if-not-is_unserved_for.ensures
 
 pub loop-g-preserved : goal.loop-g-preserved
 loop-g-preserved g c =
-    upto_passed (unserved_for (g.A.Arena.meaning c.args.arena.now) c.args.bytes.now c.args.p) c.loop-g.g c.loop-g.invariant c.if-not-is-unserved-for.ensures
+    upto_passed (unserved_for (g.A.Arena.meaning c.args.arena.now) c.args.bytes.now c.args.p) c.loop-g.g c.loop-g.invariant c.if-not-is_unserved_for.ensures
 
 pub returns : goal.returns
 returns g c =

@@ -10,9 +10,9 @@ returns-in-Some g c =
 pub loop-position-preserved : goal.loop-position-preserved
 loop-position-preserved g c =
     walk_goes_on (g.A.Arena.meaning c.args.arena.now) c.args.bytes.now c.loop-position.position (omega arith)
-    c.loop-position.invariant c.in-default.ensures
+    c.loop-position.invariant c.in_default.ensures
 
 pub returns : goal.returns
 returns g c =
-    walk_ends (g.A.Arena.meaning c.args.arena.now) c.args.bytes.now c.loop-position.position c.count-given.result (omega arith)
-    c.loop-position.invariant c.count-given.ensures
+    walk_ends (g.A.Arena.meaning c.args.arena.now) c.args.bytes.now c.loop-position.position c.count_given.result (omega arith)
+    c.loop-position.invariant c.count_given.ensures

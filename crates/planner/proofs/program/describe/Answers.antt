@@ -6,9 +6,9 @@ use Rattle.planner.proofs.program.describe.Goals as goal
 
 pub planned-requires : goal.planned-requires
 planned-requires c =
-    let s = opened_sound c.args.bytes.now c.in-ok-open.ensures.answer in
-    let n = ap size c.in-ok-open.ensures.fills in
-    let k = ap goals c.in-ok-open.ensures.fills in
+    let s = opened_sound c.args.bytes.now c.in_ok-open.ensures.answer in
+    let n = ap size c.in_ok-open.ensures.fills in
+    let k = ap goals c.in_ok-open.ensures.fills in
     record {
       some = omega (arith, s.size_low);
       few = omega (arith, s.size_high);
@@ -19,5 +19,5 @@ planned-requires c =
 pub returns : goal.returns
 returns c =
     let bs = c.args.bytes.now in
-    let held = ap (λ xs. planned_text (drawn xs)) c.in-ok-open.ensures.fills in
-    c.in-ok-planned.ensures ∙ held ∙ sym (ap answer_text (opened bs c.in-ok-open.ensures.answer))
+    let held = ap (λ xs. planned_text (drawn xs)) c.in_ok-open.ensures.fills in
+    c.in_ok-planned.ensures ∙ held ∙ sym (ap answer_text (opened bs c.in_ok-open.ensures.answer))

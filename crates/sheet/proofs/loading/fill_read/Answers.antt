@@ -14,9 +14,9 @@ loop-p-preserved c =
     let p = c.loop-p.p in
     let read : _ → Row = row_read c.args.strip.now in
     let before = vec_items c.loop-p.slots in
-    let pushed = c.push-reserved.ensures.items in (
-      ap rows_of pushed ∙ map_push (λ h. row_of h.row) before _ ∙ ap (λ (r : Row). rows_of before ++ r ∷ []) c.stored-row.ensures ∙ ap (λ xs. xs ++ read p ∷ []) inv.0 ∙ sym (map_push read (upto p) p) ∙ ap (map read) (sym (upto_more p)),
+    let pushed = c.push_reserved.ensures.items in (
+      ap rows_of pushed ∙ map_push (λ h. row_of h.row) before _ ∙ ap (λ (r : Row). rows_of before ++ r ∷ []) c.stored_row.ensures ∙ ap (λ xs. xs ++ read p ∷ []) inv.0 ∙ sym (map_push read (upto p) p) ∙ ap (map read) (sym (upto_more p)),
       ap seats_of pushed ∙ map_push (λ h. h.seat) before _ ∙ ap (λ xs. xs ++ 0 ∷ []) inv.1 ∙ replicate_more p 0,
-      omega (arith, c.push-reserved.ensures.len, inv.2),
-      c.push-reserved.ensures.capacity ∙ inv.3,
+      omega (arith, c.push_reserved.ensures.len, inv.2),
+      c.push_reserved.ensures.capacity ∙ inv.3,
     )

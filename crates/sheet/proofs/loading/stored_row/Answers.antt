@@ -6,8 +6,8 @@ use Rattle.strip.specs.Strip.{fault, size, row_at, row_in, row_read}
 use Rattle.strip.proofs.Cut.{cut_row}
 use Rattle.sheet.proofs.loading.stored_row.Goals as goal
 
-pub split-at-requires : goal.split-at-requires
-split-at-requires c = omega (arith, (sound c.args.strip.now c.requires.sound).long)
+pub split_at-requires : goal.split_at-requires
+split_at-requires c = omega (arith, (sound c.args.strip.now c.requires.sound).long)
 
 -- what is read of a record that stores a row
 told : (x y : Row) (o : Option Row) → Some x ≡ o → o ≡ Some y → x ≡ y
@@ -25,8 +25,8 @@ unreachable-requires c =
     let bs = c.args.strip.now in
     let p = c.args.p in
     let one = c.next_record.result.0.now in
-    never (row_read bs p) (row_in one) c.in-default.ensures
-    (reads bs one c.split-at.result.1.now p c.next_record.ensures.one c.split-at.ensures.back c.requires.sound c.requires.inside)
+    never (row_read bs p) (row_in one) c.in_default.ensures
+    (reads bs one c.split_at.result.1.now p c.next_record.ensures.one c.split_at.ensures.back c.requires.sound c.requires.inside)
 
 pub returns : goal.returns
 returns c =
@@ -34,4 +34,4 @@ returns c =
     let p = c.args.p in
     let one = c.next_record.result.0.now in
     told (row_of c.in-Some.row) (row_read bs p) (row_in one) c.in-Some.ensures
-    (reads bs one c.split-at.result.1.now p c.next_record.ensures.one c.split-at.ensures.back c.requires.sound c.requires.inside)
+    (reads bs one c.split_at.result.1.now p c.next_record.ensures.one c.split_at.ensures.back c.requires.sound c.requires.inside)

@@ -4,7 +4,7 @@ use Rattle.arena.specs.Sets.{count, from, upto}
 use Rattle.arena.proofs.Loops.{from_step, from_end}
 use Rattle.sheet.specs.Slots.{is_lent, seats_of}
 use Rattle.sheet.proofs.slots.count_out.Goals as goal
-use Rattle.sheet.proofs.slots.count_out.Goals.{then-seat-at-ne0, else-seat-at-ne0}
+use Rattle.sheet.proofs.slots.count_out.Goals.{then-seat_at-ne0, else-seat_at-ne0}
 
 -- how many rows are out from position p on, of n
 module _ (seats : List ℕ) (n : ℕ) where
@@ -19,13 +19,13 @@ loop-p-preserved c =
     let inv = c.loop-p.invariant in
     let step : left seats n p ≡ cond (is_lent seats p) (suc (left seats n (p + 1))) (left seats n (p + 1)) = ap (count (is_lent seats)) (from_step n p (omega arith)) in
     let so_far : c.loop-p.total + left seats n p ≡ count (is_lent seats) (upto n) = inv.1 in
-    elim c.if-seat-at-ne0.branch [
-      | then-seat-at-ne0 w ↦
-          let here : is_lent seats p ≡ true = ap not (ne_eqb (get_or seats p 0) 0 (λ e. w.if-seat-at-ne0.true (c.seat-at.ensures ∙ e))) in
+    elim c.if-seat_at-ne0.branch [
+      | then-seat_at-ne0 w ↦
+          let here : is_lent seats p ≡ true = ap not (ne_eqb (get_or seats p 0) 0 (λ e. w.if-seat_at-ne0.true (c.seat_at.ensures ∙ e))) in
           let one : left seats n p ≡ suc (left seats n (p + 1)) = step ∙ cond-true (is_lent seats p) (suc (left seats n (p + 1))) (left seats n (p + 1)) here in
           (omega (arith, w.total-is, inv.0), omega (arith, w.total-is, one, so_far))
-      | else-seat-at-ne0 w ↦
-          let here : is_lent seats p ≡ false = ap not (eq-eqb (get_or seats p 0) 0 (sym c.seat-at.ensures ∙ w.if-seat-at-ne0.false)) in
+      | else-seat_at-ne0 w ↦
+          let here : is_lent seats p ≡ false = ap not (eq-eqb (get_or seats p 0) 0 (sym c.seat_at.ensures ∙ w.if-seat_at-ne0.false)) in
           let none : left seats n p ≡ left seats n (p + 1) = step ∙ cond-false (is_lent seats p) (suc (left seats n (p + 1))) (left seats n (p + 1)) here in
           (omega (arith, w.total-is, inv.0), omega (arith, w.total-is, none, so_far))
     ]

@@ -11,7 +11,7 @@ returns-then-moves-eq0 c =
     let drawn = rows_of c.args.slots.now in
     let n = length c.args.slots.now in
     let p = c.loop-p.p in
-    let count : length c.moves.result.now ≡ length (row_at drawn p).moves = ap length c.moves.ensures ∙ ap (λ (r : Row). length r.moves) c.row-of.ensures in
+    let count : length c.moves.result.now ≡ length (row_at drawn p).moves = ap length c.moves.ensures ∙ ap (λ (r : Row). length r.moves) c.row_of.ensures in
     let here : is_empty drawn p ≡ true = eq-eqb (length (row_at drawn p).moves) 0 (sym count ∙ c.if-moves-eq0.true) in
     let found = cond-true (is_empty drawn p) (Some p) (seek (is_empty drawn) (p + 1) (n - (p + 1))) here in
     sym (seek_step (is_empty drawn) n p (omega arith) ∙ found) ∙ c.loop-p.invariant
@@ -21,7 +21,7 @@ loop-p-preserved c =
     let drawn = rows_of c.args.slots.now in
     let n = length c.args.slots.now in
     let p = c.loop-p.p in
-    let count : length c.moves.result.now ≡ length (row_at drawn p).moves = ap length c.moves.ensures ∙ ap (λ (r : Row). length r.moves) c.row-of.ensures in
+    let count : length c.moves.result.now ≡ length (row_at drawn p).moves = ap length c.moves.ensures ∙ ap (λ (r : Row). length r.moves) c.row_of.ensures in
     let here : is_empty drawn p ≡ false = ne_eqb (length (row_at drawn p).moves) 0 (λ e. c.if-moves-eq0.false (count ∙ e)) in
     let next = cond-false (is_empty drawn p) (Some p) (seek (is_empty drawn) (p + 1) (n - (p + 1))) here in
     sym (seek_step (is_empty drawn) n p (omega arith) ∙ next) ∙ c.loop-p.invariant

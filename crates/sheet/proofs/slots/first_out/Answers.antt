@@ -5,12 +5,12 @@ use Rattle.arena.proofs.Loops.{seek_step, seek_end}
 use Rattle.sheet.specs.Slots.{is_lent, seats_of}
 use Rattle.sheet.proofs.slots.first_out.Goals as goal
 
-pub returns-then-seat-at-ne0 : goal.returns-then-seat-at-ne0
-returns-then-seat-at-ne0 c =
+pub returns-then-seat_at-ne0 : goal.returns-then-seat_at-ne0
+returns-then-seat_at-ne0 c =
     let seats = seats_of c.args.slots.now in
     let n = length c.args.slots.now in
     let p = c.loop-p.p in
-    let here : is_lent seats p ≡ true = ap not (ne_eqb (get_or seats p 0) 0 (λ e. c.if-seat-at-ne0.true (c.seat-at.ensures ∙ e))) in
+    let here : is_lent seats p ≡ true = ap not (ne_eqb (get_or seats p 0) 0 (λ e. c.if-seat_at-ne0.true (c.seat_at.ensures ∙ e))) in
     let found = cond-true (is_lent seats p) (Some p) (seek (is_lent seats) (p + 1) (n - (p + 1))) here in
     sym (seek_step (is_lent seats) n p (omega arith) ∙ found) ∙ c.loop-p.invariant
 
@@ -19,7 +19,7 @@ loop-p-preserved c =
     let seats = seats_of c.args.slots.now in
     let n = length c.args.slots.now in
     let p = c.loop-p.p in
-    let here : is_lent seats p ≡ false = ap not (eq-eqb (get_or seats p 0) 0 (sym c.seat-at.ensures ∙ c.if-seat-at-ne0.false)) in
+    let here : is_lent seats p ≡ false = ap not (eq-eqb (get_or seats p 0) 0 (sym c.seat_at.ensures ∙ c.if-seat_at-ne0.false)) in
     let next = cond-false (is_lent seats p) (Some p) (seek (is_lent seats) (p + 1) (n - (p + 1))) here in
     sym (seek_step (is_lent seats) n p (omega arith) ∙ next) ∙ c.loop-p.invariant
 

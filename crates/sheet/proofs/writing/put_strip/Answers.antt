@@ -10,18 +10,18 @@ use Rattle.sheet.proofs.Pasting.{records, one_more, all_parts}
 use Rattle.sheet.proofs.writing.put_strip.Goals as goal
 
 pub loop-p-init : goal.loop-p-init
-loop-p-init c = paste_none c.put-at.new.bytes 6 (records (row_at (rows_of c.args.slots.now)) 0)
+loop-p-init c = paste_none c.put_at.new.bytes 6 (records (row_at (rows_of c.args.slots.now)) 0)
 
 pub loop-p-preserved : goal.loop-p-preserved
 loop-p-preserved c =
     let row : ℕ → Row = row_at (rows_of c.args.slots.now) in
-    let headed : List ℕ = c.put-at.new.bytes in
+    let headed : List ℕ = c.put_at.new.bytes in
     let so_far : List ℕ = c.loop-p.bytes in
     let p = c.loop-p.p in
     let place : ℕ = 6 + 38 * p in
-    let one : c.record.result ≡ record_of (row p) = c.record.ensures ∙ ap record_of c.row-of.ensures in
+    let one : c.record.result ≡ record_of (row p) = c.record.ensures ∙ ap record_of c.row_of.ensures in
     let room : 6 ≤ length headed = omega arith in
-    c.put-at-in-loop-p.ensures
+    c.put_at-in-loop-p.ensures
     ∙ ap (λ w. paste so_far place w (length w)) one
     ∙ ap (paste so_far place (record_of (row p))) (length_record (row p))
     ∙ ap (λ bs. paste bs place (record_of (row p)) 38) c.loop-p.invariant
@@ -32,11 +32,11 @@ returns c =
     let row : ℕ → Row = row_at (rows_of c.args.slots.now) in
     let n : ℕ = length c.args.slots.now in
     let bytes : List ℕ = c.args.bytes.now in
-    let headed : List ℕ = c.put-at.new.bytes in
+    let headed : List ℕ = c.put_at.new.bytes in
     let place : ℕ = 6 + 38 * n in
     let e : c.loop-p.p ≡ n = omega arith in
-    c.put-at-2.ensures
+    c.put_at-2.ensures
     ∙ ap (λ w. paste c.loop-p.bytes place w (length w)) c.end.ensures
     ∙ ap (λ bs. paste bs place (end_of n) 4) (c.loop-p.invariant ∙ ap (λ p. paste headed 6 (records row p) (38 * p)) e)
-    ∙ ap (λ bs. paste (paste bs 6 (records row n) (38 * n)) place (end_of n) 4) (c.put-at.ensures ∙ ap (λ w. paste bytes 0 w (length w)) c.head.ensures)
+    ∙ ap (λ bs. paste (paste bs 6 (records row n) (38 * n)) place (end_of n) 4) (c.put_at.ensures ∙ ap (λ w. paste bytes 0 w (length w)) c.head.ensures)
     ∙ all_parts row bytes n c.args.k c.requires.room

@@ -12,8 +12,8 @@ loop-i-init g c =
       high = λ k h. refl;
     }
 
-pub one-round-requires : goal.one-round-requires
-one-round-requires g c =
+pub one_round-requires : goal.one_round-requires
+one_round-requires g c =
     let m = g.A.Arena.meaning c.args.a.now in
     record {
       room = record { small = c.requires.room.small; past = c.requires.room.past; fits = omega (arith, c.requires.room.fits, c.loop-i.auto.work) };
@@ -23,19 +23,19 @@ one-round-requires g c =
       };
     }
 
-pub returns-then-not-one-round : goal.returns-then-not-one-round
-returns-then-not-one-round g c =
+pub returns-then-not-one_round : goal.returns-then-not-one_round
+returns-then-not-one_round g c =
     let m = g.A.Arena.meaning c.args.a.now in
     let law = g.A.Arena.lawful c.args.a.now in
     column_over m c.args.side c.args.at c.args.work.now c.loop-i.i c.loop-i.work c.requires.room c.loop-i.invariant
-    law (omega arith) c.one-round.new.work c.one-round.ensures.column (c.one-round.ensures.ended c.if-not-one-round.true)
+    law (omega arith) c.one_round.new.work c.one_round.ensures.column (c.one_round.ensures.ended c.if-not-one_round.true)
 
 pub loop-i-preserved : goal.loop-i-preserved
 loop-i-preserved g c =
     let m = g.A.Arena.meaning c.args.a.now in
-    subst (λ j. Column m.size c.args.at (number m c.args.side c.args.at c.args.work.now j) c.args.work.now c.one-round.new.work) (sym (add-one c.loop-i.i))
+    subst (λ j. Column m.size c.args.at (number m c.args.side c.args.at c.args.work.now j) c.args.work.now c.one_round.new.work) (sym (add-one c.loop-i.i))
     (column_next m c.args.side c.args.at c.args.work.now c.loop-i.i c.loop-i.work c.requires.room c.loop-i.invariant
-    c.one-round.new.work c.one-round.ensures.column)
+    c.one_round.new.work c.one_round.ensures.column)
 
 pub returns : goal.returns
 returns g c =

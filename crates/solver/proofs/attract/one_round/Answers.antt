@@ -8,8 +8,8 @@ use Rattle.solver.proofs.attract.one_round.Goals as goal
 pub loop-p-init : goal.loop-p-init
 loop-p-init g c = (column_none c.args.at _ c.args.work.now, λ e k h. refl)
 
-pub is-drawn-in-requires : goal.is-drawn-in-requires
-is-drawn-in-requires g c =
+pub is_drawn_in-requires : goal.is_drawn_in-requires
+is_drawn_in-requires g c =
     (omega arith, (record { small = c.requires.room.small; past = c.requires.room.past; fits = omega (arith, c.requires.room.fits, c.loop-p.auto.work) }, omega arith))
 
 pub loop-p-preserved : goal.loop-p-preserved
@@ -25,11 +25,11 @@ loop-p-preserved g c =
     let pn : c.loop-p.p < (g.A.Arena.meaning c.args.a.now).size = omega arith in
     let pv : c.args.at + c.loop-p.p < length c.loop-p.work = omega arith in
     elim c.if-work-at-eq0.branch [
-      | goal.then-work-at-eq0+then-is-drawn-in w ↦
-          let d = next_new m c.args.side at i p e v pn c.requires.room c.requires.ranked.low inv.0 w.if-work-at-eq0.true true w.if-is-drawn-in.ensures in
+      | goal.then-work-at-eq0+then-is_drawn_in w ↦
+          let d = next_new m c.args.side at i p e v pn c.requires.room c.requires.ranked.low inv.0 w.if-work-at-eq0.true true w.if-is_drawn_in.ensures in
           simp (w.work_is, w.more-is) (column_more p at f e v (i + 2) inv.0 pv (sym d), λ z. absurd (true≢false z))
-      | goal.then-work-at-eq0+else-is-drawn-in w ↦
-          let d = next_new m c.args.side at i p e v pn c.requires.room c.requires.ranked.low inv.0 w.if-work-at-eq0.true false w.if-is-drawn-in.ensures in
+      | goal.then-work-at-eq0+else-is_drawn_in w ↦
+          let d = next_new m c.args.side at i p e v pn c.requires.room c.requires.ranked.low inv.0 w.if-work-at-eq0.true false w.if-is_drawn_in.ensures in
           simp (w.work_is, w.more-is) (column_pass p at f e v inv.0 (w.if-work-at-eq0.true ∙ sym d), inv.1)
       | goal.else-work-at-eq0 w ↦
           let d = next_old m c.args.side at i p e v pn c.requires.room c.requires.ranked.low inv.0 w.if-work-at-eq0.false in

@@ -18,8 +18,8 @@ loop-j-preserved g c =
     let v = c.positions.work in
     let p = c.positions.p in
     let j = c.loop-j.j in
-    let k = c.count-moves-count.ensures in
-    let s = told_both (λ n. qualifies n c.positions.work c.args.side c.args.from c.positions.p) false c.positions-n.result m.size c.move-at-q.result (get_or (m.moves p) j 0) c.if-is-qualified.ensures c.positions-n.ensures c.move-at-q.ensures.is in
+    let k = c.count_moves-count.ensures in
+    let s = told_both (λ n. qualifies n c.positions.work c.args.side c.args.from c.positions.p) false c.positions-n.result m.size c.move_at-q.result (get_or (m.moves p) j 0) c.if-is_qualified.ensures c.positions-n.ensures c.move_at-q.ensures.is in
     let f = first_passed (qualifies m.size v c.args.side c.args.from p) (m.moves p) j no_move (omega arith) s in
     let i = c.loop-j.invariant.1 in
     (omega arith, (cc))
@@ -36,7 +36,7 @@ positions-preserved g c =
     let side = c.args.side in
     let q = qualifies m.size v side from p in
     let j = c.loop-j.j in
-    let k = c.count-moves-count.ensures in
+    let k = c.count_moves-count.ensures in
     let pn : c.positions.p < (g.A.Arena.meaning c.args.a.now).size = omega (arith, c.positions-n.ensures) in
     let found : c.if-j-count.lowest ≡ first (qualifies (g.A.Arena.meaning c.args.a.now).size c.positions.work c.args.side c.args.from c.positions.p) no_move ((g.A.Arena.meaning c.args.a.now).moves c.positions.p) =
     elim c.if-j-count.branch [
@@ -45,17 +45,17 @@ positions-preserved g c =
           let i = c.loop-j.invariant.1 in
           let l = u.lowest-is in
           cc
-      | goal.else-j-count+then-is-qualified u ↦
-          let s = told_both (λ n. qualifies n c.positions.work c.args.side c.args.from c.positions.p) true c.positions-n.result m.size u.move-at-q.result (get_or (m.moves p) j 0) u.if-is-qualified.ensures c.positions-n.ensures u.move-at-q.ensures.is in
+      | goal.else-j-count+then-is_qualified u ↦
+          let s = told_both (λ n. qualifies n c.positions.work c.args.side c.args.from c.positions.p) true c.positions-n.result m.size u.move_at-q.result (get_or (m.moves p) j 0) u.if-is_qualified.ensures c.positions-n.ensures u.move_at-q.ensures.is in
           let f = first_found q (m.moves p) j no_move (omega arith) s in
           let i = c.loop-j.invariant.1 in
           let l = u.lowest-is in
-          let x = u.move-at-q.ensures.is in
+          let x = u.move_at-q.ensures.is in
           cc
     ]
     in
     column_more p at (decision m w side from) w v c.if-j-count.lowest c.positions.invariant (omega arith)
-    (decision_own m law side from at p w v pn c.requires (decision m w side from) c.positions.invariant (sym c.if-not-is-owner.ensures) c.if-j-count.lowest found)
+    (decision_own m law side from at p w v pn c.requires (decision m w side from) c.positions.invariant (sym c.if-not-is_owner.ensures) c.if-j-count.lowest found)
 
 pub returns : goal.returns
 returns g c =
@@ -63,8 +63,8 @@ returns g c =
     let e : c.positions.p ≡ (g.A.Arena.meaning c.args.a.now).size = omega (arith, c.positions-n.ensures) in
     subst (λ n. Column n c.args.at (decision m c.args.work.now c.args.side c.args.from) c.args.work.now c.positions.work) e c.positions.invariant
 
-pub positions-preserved-then-not-is-owner : goal.positions-preserved-then-not-is-owner
-positions-preserved-then-not-is-owner g c =
+pub positions-preserved-then-not-is_owner : goal.positions-preserved-then-not-is_owner
+positions-preserved-then-not-is_owner g c =
     let m = g.A.Arena.meaning c.args.a.now in
     let law = g.A.Arena.lawful c.args.a.now in
     let w = c.args.work.now in
@@ -73,4 +73,4 @@ positions-preserved-then-not-is-owner g c =
     let f = decision m w c.args.side c.args.from in
     let pn : c.positions.p < (g.A.Arena.meaning c.args.a.now).size = omega (arith, c.positions-n.ensures) in
     column_more p c.args.at f w v no_move c.positions.invariant (omega arith)
-    (decision_other m law c.args.side c.args.from c.args.at p w v pn c.requires f c.positions.invariant (let o = c.if-not-is-owner.ensures in cc))
+    (decision_other m law c.args.side c.args.from c.args.at p w v pn c.requires f c.positions.invariant (let o = c.if-not-is_owner.ensures in cc))

@@ -28,15 +28,15 @@ module _ (stays less same goal near : Bool) where
       ∙ or_goes less (same && goal && near) l
       ∙ and_goes (not stays) (less || (same && goal && near)) (not_from_false stays s)
 
-pub returns-then-is-present : goal.returns-then-is-present
-returns-then-is-present c =
+pub returns-then-is_present : goal.returns-then-is_present
+returns-then-is_present c =
     let w = c.args.work.now in
     let n = c.args.n in
     let p = c.args.p in
     let q = c.args.q in
     stays_in (present n w q) (ltb (get_or w q 0) (get_or w p 0)) (eqb (get_or w q 0) (get_or w p 0)) (eqb (cell w n q) (cell w n p))
     (ltb (cell w (2 * n) q) (cell w (2 * n) p) || (eqb (cell w (2 * n) p) 0 && eqb (cell w (2 * n) q) 0))
-    (sym c.if-is-present.ensures)
+    (sym c.if-is_present.ensures)
 
 pub returns-then-there-here : goal.returns-then-there-here
 returns-then-there-here c =
@@ -46,7 +46,7 @@ returns-then-there-here c =
     let q = c.args.q in
     smaller (present n w q) (ltb (get_or w q 0) (get_or w p 0)) (eqb (get_or w q 0) (get_or w p 0)) (eqb (cell w n q) (cell w n p))
     (ltb (cell w (2 * n) q) (cell w (2 * n) p) || (eqb (cell w (2 * n) p) 0 && eqb (cell w (2 * n) q) 0))
-    (sym c.if-is-present.ensures) (lt-ltb (get_or w q 0) (get_or w p 0) c.if-there-here.true)
+    (sym c.if-is_present.ensures) (lt-ltb (get_or w q 0) (get_or w p 0) c.if-there-here.true)
 
 pub returns-then-there-here-2 : goal.returns-then-there-here-2
 returns-then-there-here-2 c =
@@ -74,7 +74,7 @@ returns c =
     let n = c.args.n in
     let p = c.args.p in
     let q = c.args.q in
-    c.is-closer.ensures
+    c.is_closer.ensures
     ∙ by_approach (present n w q) (ltb (get_or w q 0) (get_or w p 0)) (eqb (get_or w q 0) (get_or w p 0)) (eqb (cell w n q) (cell w n p))
     (ltb (cell w (2 * n) q) (cell w (2 * n) p) || (eqb (cell w (2 * n) p) 0 && eqb (cell w (2 * n) q) 0))
-    (sym c.if-is-present.ensures) (le-ltb (get_or w q 0) (get_or w p 0) c.if-there-here.false) (eq-eqb (get_or w q 0) (get_or w p 0) c.if-there-here-2.false) (eq-eqb (cell w n q) (cell w n p) c.if-work-goal.false)
+    (sym c.if-is_present.ensures) (le-ltb (get_or w q 0) (get_or w p 0) c.if-there-here.false) (eq-eqb (get_or w q 0) (get_or w p 0) c.if-there-here-2.false) (eq-eqb (cell w n q) (cell w n p) c.if-work-goal.false)

@@ -9,21 +9,21 @@ pub returns-then-here-eq0 : goal.returns-then-here-eq0
 returns-then-here-eq0 c =
     let here = rank_in c.args.work.now c.args.from c.args.p in
     let there = rank_in c.args.work.now c.args.from c.args.q in
-    ap (λ x. eqb x 0) c.rank-in-here.ensures
-    ∙ or_stops (eqb here 0) (ltb there here) (eq-eqb here 0 (sym c.rank-in-here.ensures ∙ c.if-here-eq0.true))
-    ∙ and_goes (present c.args.n c.args.work.now c.args.q) (eqb here 0 || ltb there here) (sym c.is-present-inside.ensures ∙ c.if-inside.true)
+    ap (λ x. eqb x 0) c.rank_in-here.ensures
+    ∙ or_stops (eqb here 0) (ltb there here) (eq-eqb here 0 (sym c.rank_in-here.ensures ∙ c.if-here-eq0.true))
+    ∙ and_goes (present c.args.n c.args.work.now c.args.q) (eqb here 0 || ltb there here) (sym c.is_present-inside.ensures ∙ c.if-inside.true)
 
 pub returns-else-here-eq0 : goal.returns-else-here-eq0
 returns-else-here-eq0 c =
     let here = rank_in c.args.work.now c.args.from c.args.p in
     let there = rank_in c.args.work.now c.args.from c.args.q in
-    (λ j. ltb (c.rank-in-there.ensures j) (c.rank-in-here.ensures j))
-    ∙ or_goes (eqb here 0) (ltb there here) (ne_eqb here 0 (λ e. c.if-here-eq0.false (c.rank-in-here.ensures ∙ e)))
-    ∙ and_goes (present c.args.n c.args.work.now c.args.q) (eqb here 0 || ltb there here) (sym c.is-present-inside.ensures ∙ c.if-inside.true)
+    (λ j. ltb (c.rank_in-there.ensures j) (c.rank_in-here.ensures j))
+    ∙ or_goes (eqb here 0) (ltb there here) (ne_eqb here 0 (λ e. c.if-here-eq0.false (c.rank_in-here.ensures ∙ e)))
+    ∙ and_goes (present c.args.n c.args.work.now c.args.q) (eqb here 0 || ltb there here) (sym c.is_present-inside.ensures ∙ c.if-inside.true)
 
 pub returns-else-inside : goal.returns-else-inside
 returns-else-inside c =
     let here = rank_in c.args.work.now c.args.from c.args.p in
     let there = rank_in c.args.work.now c.args.from c.args.q in
-    c.is-present-inside.ensures
-    ∙ and_stops (present c.args.n c.args.work.now c.args.q) (eqb here 0 || ltb there here) (sym c.is-present-inside.ensures ∙ c.if-inside.false)
+    c.is_present-inside.ensures
+    ∙ and_stops (present c.args.n c.args.work.now c.args.q) (eqb here 0 || ltb there here) (sym c.is_present-inside.ensures ∙ c.if-inside.false)

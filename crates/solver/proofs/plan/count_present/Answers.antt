@@ -18,12 +18,12 @@ loop-p-preserved c =
     let p = c.loop-p.p in
     let a = c.loop-p.invariant.0 in
     let i = c.loop-p.invariant.1 in
-    elim c.if-is-present.branch [
-      | goal.then-is-present w ↦
-          let k = counted f c.args.n p true (omega arith) w.if-is-present.ensures in
+    elim c.if-is_present.branch [
+      | goal.then-is_present w ↦
+          let k = counted f c.args.n p true (omega arith) w.if-is_present.ensures in
           (omega (arith, w.total-is), omega (arith, w.total-is))
-      | goal.else-is-present w ↦
-          let k = counted f c.args.n p false (omega arith) w.if-is-present.ensures in
+      | goal.else-is_present w ↦
+          let k = counted f c.args.n p false (omega arith) w.if-is_present.ensures in
           (omega (arith, w.total-is), omega (arith, w.total-is))
     ]
 

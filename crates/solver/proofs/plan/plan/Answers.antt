@@ -20,22 +20,22 @@ zeros_past n w v e k h =
     let i : n + (k - n) ≡ k = omega arith in
     ap (λ xs. get_or xs k 0) e ∙ get_or-append_right (replicate n 0) (drop n w) n k 0 (length-replicate n 0) h ∙ get_or-drop n w (k - n) 0 ∙ ap (λ j. get_or w j 0) i
 
-pub run-stages-stages-requires : goal.run-stages-stages-requires
-run-stages-stages-requires g c =
+pub run_stages-stages-requires : goal.run_stages-stages-requires
+run_stages-stages-requires g c =
     let e = c.positions-n.ensures in
     record {
       enough = record { small = c.requires.enough.small; few = c.requires.enough.few; fits = omega (arith, c.requires.enough.fits, c.zero.auto.work) };
       fresh = λ k h. zeros_front c.positions-n.result c.args.work.now c.zero.new.work c.zero.ensures k (omega arith);
     }
 
-pub count-present-controlled-requires : goal.count-present-controlled-requires
-count-present-controlled-requires g c =
-    omega (arith, c.positions-n.ensures, c.requires.enough.fits, six_fit (g.A.Arena.meaning c.args.a.now), c.zero.auto.work, c.run-stages-stages.auto.work)
+pub count_present-controlled-requires : goal.count_present-controlled-requires
+count_present-controlled-requires g c =
+    omega (arith, c.positions-n.ensures, c.requires.enough.fits, six_fit (g.A.Arena.meaning c.args.a.now), c.zero.auto.work, c.run_stages-stages.auto.work)
 
-pub write-certificate-requires : goal.write-certificate-requires
-write-certificate-requires g c = record {
-  enough = record { small = c.requires.enough.small; few = c.requires.enough.few; fits = omega (arith, c.requires.enough.fits, c.zero.auto.work, c.run-stages-stages.auto.work) };
-  ready = c.run-stages-stages.ensures.ready;
+pub write_certificate-requires : goal.write_certificate-requires
+write_certificate-requires g c = record {
+  enough = record { small = c.requires.enough.small; few = c.requires.enough.few; fits = omega (arith, c.requires.enough.fits, c.zero.auto.work, c.run_stages-stages.auto.work) };
+  ready = c.run_stages-stages.ensures.ready;
   fits = c.requires.fits;
 }
 
@@ -47,15 +47,15 @@ returns g c =
     let m = g.A.Arena.meaning c.args.a.now in
     let law = g.A.Arena.lawful c.args.a.now in
     let e = c.positions-n.ensures in
-    let u = c.run-stages-stages.new.work in
+    let u = c.run_stages-stages.new.work in
     let six = six_fit m in
-    let here = present_final m law u c.run-stages-stages.ensures.ready.standing in
+    let here = present_final m law u c.run_stages-stages.ensures.ready.standing in
     let n = counted (present c.positions-n.result u) (final m) c.positions-n.result m.size (ap (λ i. present i u) e ∙ here) e in
     record {
-      answer = λ j. ((c.count-present-controlled.ensures ∙ n) j, c.run-stages-stages.ensures.count j);
-      bytes = c.write-certificate.ensures.bytes;
+      answer = λ j. ((c.count_present-controlled.ensures ∙ n) j, c.run_stages-stages.ensures.count j);
+      bytes = c.write_certificate.ensures.bytes;
       beyond = λ k h.
-          c.write-certificate.ensures.beyond k h
-          ∙ c.run-stages-stages.ensures.beyond k h
+          c.write_certificate.ensures.beyond k h
+          ∙ c.run_stages-stages.ensures.beyond k h
           ∙ zeros_past c.positions-n.result c.args.work.now c.zero.new.work c.zero.ensures k (omega arith);
     }

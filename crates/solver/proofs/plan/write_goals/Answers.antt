@@ -29,8 +29,8 @@ decide-requires g c =
       fits = omega (arith, c.requires.enough.fits, c.loop-g.auto.work);
     }
 
-pub write-goals-of-requires : goal.write-goals-of-requires
-write-goals-of-requires g c =
+pub write_goals_of-requires : goal.write_goals_of-requires
+write_goals_of-requires g c =
     let m = g.A.Arena.meaning c.args.a.now in
     let e = c.positions-n.ensures in
     let k = c.goals-goals.ensures in
@@ -47,8 +47,8 @@ write-goals-of-requires g c =
       off = omega arith;
     }
 
-pub overflow-add-from : goal.overflow-add-from
-overflow-add-from g c =
+pub overflow_add-from : goal.overflow_add-from
+overflow_add-from g c =
     let m = g.A.Arena.meaning c.args.a.now in
     let fits = column_fits m.size c.loop-g.g m.goals (omega (arith, c.goals-goals.ensures)) in
     let place = c.loop-g.invariant.place in
@@ -63,14 +63,14 @@ loop-g-preserved g c =
     let k = c.goals-goals.ensures in
     let v = c.loop-g.work in
     let u = c.decide.new.work in
-    let d = c.write-goals-of.new.out in
+    let d = c.write_goals_of.new.out in
     let from = c.loop-g.from in
     let col : Column (g.A.Arena.meaning c.args.a.now).size (5 * (g.A.Arena.meaning c.args.a.now).size) (decision (g.A.Arena.meaning c.args.a.now) c.loop-g.work 0 c.loop-g.from) c.loop-g.work c.decide.new.work =
     subst (λ n. Column m.size (5 * n) (decision m v 0 from) v u) e c.decide.ensures
     in
-    let band : Band (g.A.Arena.meaning c.args.a.now).size (record_bytes (g.A.Arena.meaning c.args.a.now)) (10 + 4 * c.loop-g.g) 4 (g.A.Arena.meaning c.args.a.now).size (goal_part (g.A.Arena.meaning c.args.a.now).size c.decide.new.work c.loop-g.from) c.loop-g.out c.write-goals-of.new.out =
+    let band : Band (g.A.Arena.meaning c.args.a.now).size (record_bytes (g.A.Arena.meaning c.args.a.now)) (10 + 4 * c.loop-g.g) 4 (g.A.Arena.meaning c.args.a.now).size (goal_part (g.A.Arena.meaning c.args.a.now).size c.decide.new.work c.loop-g.from) c.loop-g.out c.write_goals_of.new.out =
     subst (λ x. Band m.size (10 + 4 * x) (10 + 4 * c.loop-g.g) 4 m.size (goal_part m.size u from) c.loop-g.out d) k
-    (subst (λ n. Band n (10 + 4 * c.goals-goals.result) (10 + 4 * c.loop-g.g) 4 n (goal_part n u from) c.loop-g.out d) e c.write-goals-of.ensures)
+    (subst (λ n. Band n (10 + 4 * c.goals-goals.result) (10 + 4 * c.loop-g.g) 4 n (goal_part n u from) c.loop-g.out d) e c.write_goals_of.ensures)
     in
     subst (λ n. Writing m c.args.work.now u c.args.out.now d (c.loop-g.g + 1) (from + n)) (sym e)
     (writing_more m law c.args.work.now v u c.args.out.now c.loop-g.out d c.loop-g.g from (omega arith) c.loop-g.invariant col band)

@@ -5,4 +5,4 @@ use Rattle.solver.proofs.record.write_end.Goals as goal
 
 pub returns : goal.returns
 returns c =
-    put_join 2 2 c.args.at (0x43 ∷ 0x45 ∷ []) (two c.args.n) c.args.out.now c.write-pair.new.out c.write-two.new.out refl c.write-pair.ensures c.write-two.ensures
+    put_join 2 2 c.args.at (0x43 ∷ 0x45 ∷ []) (two c.args.n) c.args.out.now c.write_pair.new.out c.write_two.new.out refl c.write_pair.ensures c.write_two.ensures

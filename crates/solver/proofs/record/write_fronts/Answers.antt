@@ -6,8 +6,8 @@ use Rattle.solver.proofs.record.write_fronts.Goals as goal
 pub loop-p-init : goal.loop-p-init
 loop-p-init c = band_none c.args.n c.args.width 0 10 (front_part c.args.n c.args.work.now) c.args.out.now
 
-pub write-front-of-requires : goal.write-front-of-requires
-write-front-of-requires c = record {
+pub write_front_of-requires : goal.write_front_of-requires
+write_front_of-requires c = record {
   inside = omega arith;
   columns = c.requires.columns;
   goals = c.requires.goals;
@@ -21,8 +21,8 @@ loop-p-preserved c =
     let p = c.loop-p.p in
     let f = front_part n c.args.work.now in
     let e : 6 + c.loop-p.p * c.args.width ≡ 6 + c.loop-p.p * c.args.width + 0 = omega arith in
-    band_more n width 0 10 p f c.args.out.now c.loop-p.out c.write-front-of.new.out (omega arith) (omega (arith, c.requires.off)) c.loop-p.invariant
-    (subst (λ at. Put 10 at (f p) c.loop-p.out c.write-front-of.new.out) e c.write-front-of.ensures)
+    band_more n width 0 10 p f c.args.out.now c.loop-p.out c.write_front_of.new.out (omega arith) (omega (arith, c.requires.off)) c.loop-p.invariant
+    (subst (λ at. Put 10 at (f p) c.loop-p.out c.write_front_of.new.out) e c.write_front_of.ensures)
 
 pub returns : goal.returns
 returns c =

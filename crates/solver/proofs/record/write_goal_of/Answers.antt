@@ -5,15 +5,15 @@ use Rattle.solver.specs.Writing.{Put, goal_bytes}
 use Rattle.solver.proofs.Puts.{put_true, put_false}
 use Rattle.solver.proofs.record.write_goal_of.Goals as goal
 
-pub returns-then-is-present : goal.returns-then-is-present
-returns-then-is-present c =
+pub returns-then-is_present : goal.returns-then-is_present
+returns-then-is_present c =
     let w = c.args.work.now in
     let step = cell w (5 * c.args.n) c.args.p in
-    put_true 4 c.args.at (present c.args.n w c.args.p) (goal_bytes (rank_in w c.args.from c.args.p) step) (goal_bytes 0 0) c.args.out.now c.write-goal.new.out (sym c.if-is-present.ensures)
-    (subst (λ r. Put 4 c.args.at (goal_bytes r step) c.args.out.now c.write-goal.new.out) c.rank_in.ensures c.write-goal.ensures)
+    put_true 4 c.args.at (present c.args.n w c.args.p) (goal_bytes (rank_in w c.args.from c.args.p) step) (goal_bytes 0 0) c.args.out.now c.write_goal.new.out (sym c.if-is_present.ensures)
+    (subst (λ r. Put 4 c.args.at (goal_bytes r step) c.args.out.now c.write_goal.new.out) c.rank_in.ensures c.write_goal.ensures)
 
 pub returns : goal.returns
 returns c =
     let w = c.args.work.now in
     let step = cell w (5 * c.args.n) c.args.p in
-    put_false 4 c.args.at (present c.args.n w c.args.p) (goal_bytes (rank_in w c.args.from c.args.p) step) (goal_bytes 0 0) c.args.out.now c.write-goal-2.new.out (sym c.if-is-present.ensures) c.write-goal-2.ensures
+    put_false 4 c.args.at (present c.args.n w c.args.p) (goal_bytes (rank_in w c.args.from c.args.p) step) (goal_bytes 0 0) c.args.out.now c.write_goal-2.new.out (sym c.if-is_present.ensures) c.write_goal-2.ensures

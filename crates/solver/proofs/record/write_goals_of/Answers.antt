@@ -6,8 +6,8 @@ use Rattle.solver.proofs.record.write_goals_of.Goals as goal
 pub loop-p-init : goal.loop-p-init
 loop-p-init c = band_none c.args.n c.args.width c.args.off 4 (goal_part c.args.n c.args.work.now c.args.from) c.args.out.now
 
-pub write-goal-of-requires : goal.write-goal-of-requires
-write-goal-of-requires c = record {
+pub write_goal_of-requires : goal.write_goal_of-requires
+write_goal_of-requires c = record {
   inside = omega arith;
   columns = c.requires.columns;
   source = c.requires.source;
@@ -16,8 +16,8 @@ write-goal-of-requires c = record {
 
 pub loop-p-preserved : goal.loop-p-preserved
 loop-p-preserved c =
-    band_more c.args.n c.args.width c.args.off 4 c.loop-p.p (goal_part c.args.n c.args.work.now c.args.from) c.args.out.now c.loop-p.out c.write-goal-of.new.out
-    (omega arith) c.requires.off c.loop-p.invariant c.write-goal-of.ensures
+    band_more c.args.n c.args.width c.args.off 4 c.loop-p.p (goal_part c.args.n c.args.work.now c.args.from) c.args.out.now c.loop-p.out c.write_goal_of.new.out
+    (omega arith) c.requires.off c.loop-p.invariant c.write_goal_of.ensures
 
 pub returns : goal.returns
 returns c =

@@ -6,6 +6,6 @@ use Rattle.solver.proofs.record.write_head.Goals as goal
 pub returns : goal.returns
 returns c =
     let b = c.args.out.now in
-    let d = c.write-two.new.out in
-    let four = put_join 2 2 0 (0x43 ∷ 0x48 ∷ []) (two c.args.n) b c.write-pair.new.out d refl c.write-pair.ensures c.write-two.ensures in
-    put_join 4 2 0 (0x43 ∷ 0x48 ∷ two c.args.n) (two c.args.goals) b d c.write-two-2.new.out refl four c.write-two-2.ensures
+    let d = c.write_two.new.out in
+    let four = put_join 2 2 0 (0x43 ∷ 0x48 ∷ []) (two c.args.n) b c.write_pair.new.out d refl c.write_pair.ensures c.write_two.ensures in
+    put_join 4 2 0 (0x43 ∷ 0x48 ∷ two c.args.n) (two c.args.goals) b d c.write_two-2.new.out refl four c.write_two-2.ensures

@@ -5,9 +5,9 @@ use Rattle.solver.proofs.stage.is_unreached.Goals as goal
 
 pub returns-then-inside : goal.returns-then-inside
 returns-then-inside c =
-    and_goes (present c.args.n c.args.work.now c.args.p) (eqb (cell c.args.work.now c.args.from c.args.p) 0) (sym c.is-present-inside.ensures ∙ c.if-inside.true)
+    and_goes (present c.args.n c.args.work.now c.args.p) (eqb (cell c.args.work.now c.args.from c.args.p) 0) (sym c.is_present-inside.ensures ∙ c.if-inside.true)
 
 pub returns-else-inside : goal.returns-else-inside
 returns-else-inside c =
-    c.is-present-inside.ensures
-    ∙ and_stops (present c.args.n c.args.work.now c.args.p) (eqb (cell c.args.work.now c.args.from c.args.p) 0) (sym c.is-present-inside.ensures ∙ c.if-inside.false)
+    c.is_present-inside.ensures
+    ∙ and_stops (present c.args.n c.args.work.now c.args.p) (eqb (cell c.args.work.now c.args.from c.args.p) 0) (sym c.is_present-inside.ensures ∙ c.if-inside.false)

@@ -18,7 +18,7 @@ loop-p-preserved c =
     let cells = c.loop-p.invariant.high (from + p) (omega arith) in
     let same : unreached c.args.n c.loop-p.work c.args.from c.loop-p.p ≡ unreached c.args.n c.args.work.now c.args.from c.loop-p.p = λ j. inside j p && eqb (cells j) 0 in
     column_more p c.args.at (λ k. cond (unreached c.args.n c.args.work.now c.args.from k) 1 0) w v c.number.result c.loop-p.invariant (omega arith)
-    (c.number.ensures ∙ ap (λ b. cond b 1 0) (c.is-unreached.ensures ∙ same))
+    (c.number.ensures ∙ ap (λ b. cond b 1 0) (c.is_unreached.ensures ∙ same))
 
 pub returns : goal.returns
 returns c =

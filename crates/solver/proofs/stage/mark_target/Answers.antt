@@ -16,7 +16,7 @@ loop-p-preserved g c =
     let inside = present_same m.size w v (λ k h. c.loop-p.invariant.low k (omega (arith, c.requires.room.past))) in
     let same = ap (λ (i : ℕ → _). target m i c.args.g p) inside in
     column_more p c.args.at (λ k. cond (target m (present m.size w) c.args.g k) 1 0) w v c.number.result c.loop-p.invariant (omega arith)
-    (let n = c.number.ensures in let t = c.is-target.ensures in cc)
+    (let n = c.number.ensures in let t = c.is_target.ensures in cc)
 
 pub returns : goal.returns
 returns g c =

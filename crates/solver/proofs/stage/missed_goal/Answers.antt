@@ -39,8 +39,8 @@ returns-then-misses g c =
     let is = misses_is m c.args.work.now c.loop-g.work c.reach.new.work c.loop-g.g c.loop-g.at goal c.loop-g.invariant c.reach.ensures in
     searched_some m c.args.work.now c.loop-g.work c.reach.new.work c.loop-g.g c.loop-g.at goal c.loop-g.invariant c.reach.ensures (sym is ∙ t)
 
-pub overflow-add-at : goal.overflow-add-at
-overflow-add-at g c =
+pub overflow_add-at : goal.overflow_add-at
+overflow_add-at g c =
     let m = g.A.Arena.meaning c.args.a.now in
     let fits = column_fits m.size c.loop-g.g m.goals (omega (arith, c.goals-goals.ensures)) in
     let place = c.loop-g.invariant.place in

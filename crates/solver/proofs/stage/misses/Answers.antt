@@ -6,12 +6,12 @@ use Rattle.solver.proofs.Scans.{any_found, any_passed, any_none}
 use Rattle.solver.proofs.Cores.{upto_at}
 use Rattle.solver.proofs.stage.misses.Goals as goal
 
-pub returns-then-is-unreached : goal.returns-then-is-unreached
-returns-then-is-unreached c =
+pub returns-then-is_unreached : goal.returns-then-is_unreached
+returns-then-is_unreached c =
     let f = unreached c.args.n c.args.work.now c.args.from in
     let p = c.loop-p.p in
     let l = length_from 0 c.args.n in
-    let e = ap f (upto_at c.args.n p (omega arith)) ∙ sym c.if-is-unreached.ensures in
+    let e = ap f (upto_at c.args.n p (omega arith)) ∙ sym c.if-is_unreached.ensures in
     let r = any_found f (upto c.args.n) p (omega arith) e in
     let i = c.loop-p.invariant in
     cc
@@ -21,7 +21,7 @@ loop-p-preserved c =
     let f = unreached c.args.n c.args.work.now c.args.from in
     let p = c.loop-p.p in
     let l = length_from 0 c.args.n in
-    let e = ap f (upto_at c.args.n p (omega arith)) ∙ sym c.if-is-unreached.ensures in
+    let e = ap f (upto_at c.args.n p (omega arith)) ∙ sym c.if-is_unreached.ensures in
     let r = any_passed f (upto c.args.n) p (omega arith) e in
     let i = c.loop-p.invariant in
     cc

@@ -22,39 +22,39 @@ module _ (bs : List ℕ) where
   past_end : None ≡ head → None ≡ rows_wrong bs 0 → None ≡ end → fault bs ≡ trailing bs
   past_end e f g = past_rows e f ∙ nothing_first end (trailing bs) g
 
-pub returns-in-err-head : goal.returns-in-err-head
-returns-in-err-head c =
+pub returns-in_err-head : goal.returns-in_err-head
+returns-in_err-head c =
     let bs = c.args.bytes.now in
-    let it = c.in-err-head.field-0.0 in
-    passed_on c.from-residual.result it c.from-residual.ensures.1
-    ∙ sym (fault_parts bs ∙ something_first (head bs) (or_else (rows_wrong bs 0) (or_else (end bs) (trailing bs))) it.place c.in-err-head.ensures)
+    let it = c.in_err-head.field-0.0 in
+    passed_on c.from_residual.result it c.from_residual.ensures.1
+    ∙ sym (fault_parts bs ∙ something_first (head bs) (or_else (rows_wrong bs 0) (or_else (end bs) (trailing bs))) it.place c.in_err-head.ensures)
 
-pub returns-in-err-records : goal.returns-in-err-records
-returns-in-err-records c =
+pub returns-in_err-records : goal.returns-in_err-records
+returns-in_err-records c =
     let bs = c.args.bytes.now in
-    let it = c.in-err-records.field-0.0 in
-    passed_on c.from-residual-in-err-records.result it c.from-residual-in-err-records.ensures.1
-    ∙ sym (past_head bs c.in-ok-head.ensures ∙ something_first (rows_wrong bs 0) (or_else (end bs) (trailing bs)) it.place c.in-err-records.ensures)
+    let it = c.in_err-records.field-0.0 in
+    passed_on c.from_residual-in_err-records.result it c.from_residual-in_err-records.ensures.1
+    ∙ sym (past_head bs c.in_ok-head.ensures ∙ something_first (rows_wrong bs 0) (or_else (end bs) (trailing bs)) it.place c.in_err-records.ensures)
 
-pub returns-in-err-end : goal.returns-in-err-end
-returns-in-err-end c =
+pub returns-in_err-end : goal.returns-in_err-end
+returns-in_err-end c =
     let bs = c.args.bytes.now in
-    let it = c.in-err-end.field-0.0 in
-    passed_on c.from-residual-in-err-end.result it c.from-residual-in-err-end.ensures.1
-    ∙ sym (past_rows bs c.in-ok-head.ensures c.in-ok-records.ensures ∙ something_first (end bs) (trailing bs) it.place c.in-err-end.ensures)
+    let it = c.in_err-end.field-0.0 in
+    passed_on c.from_residual-in_err-end.result it c.from_residual-in_err-end.ensures.1
+    ∙ sym (past_rows bs c.in_ok-head.ensures c.in_ok-records.ensures ∙ something_first (end bs) (trailing bs) it.place c.in_err-end.ensures)
 
 pub returns-then-after-bytes : goal.returns-then-after-bytes
 returns-then-after-bytes c =
     let bs = c.args.bytes.now in
-    let here : 6 + 38 * c.number-at-n.result + 4 ≡ end_at bs + 4 = omega arith in
+    let here : 6 + 38 * c.number_at-n.result + 4 ≡ end_at bs + 4 = omega arith in
     let more : end_at bs + 4 < length bs = omega arith in
     let there = cond-true (ltb (end_at bs + 4) (length bs)) (Some (end_at bs + 4)) None (lt-ltb (end_at bs + 4) (length bs) more) in
     ap (λ i. Some i) here
-    ∙ sym (past_end bs c.in-ok-head.ensures c.in-ok-records.ensures c.in-ok-end.ensures ∙ there)
+    ∙ sym (past_end bs c.in_ok-head.ensures c.in_ok-records.ensures c.in_ok-end.ensures ∙ there)
 
 pub returns : goal.returns
 returns c =
     let bs = c.args.bytes.now in
     let less : length bs ≤ end_at bs + 4 = omega arith in
     let there = cond-false (ltb (end_at bs + 4) (length bs)) (Some (end_at bs + 4)) None (le-ltb (end_at bs + 4) (length bs) less) in
-    sym (past_end bs c.in-ok-head.ensures c.in-ok-records.ensures c.in-ok-end.ensures ∙ there)
+    sym (past_end bs c.in_ok-head.ensures c.in_ok-records.ensures c.in_ok-end.ensures ∙ there)

@@ -7,4 +7,4 @@ use Rattle.strip.proofs.opened.count_at.Goals as goal
 pub returns : goal.returns
 returns c =
     let bs = c.args.bytes.now in
-    c.number-at.ensures ∙ ap (λ o. number bs (o + 4)) c.record-at.ensures ∙ sym (moves_count bs (row_at c.args.p))
+    c.number_at.ensures ∙ ap (λ o. number bs (o + 4)) c.record_at.ensures ∙ sym (moves_count bs (row_at c.args.p))

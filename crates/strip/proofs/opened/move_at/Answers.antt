@@ -11,4 +11,4 @@ returns c =
     let j = c.args.j in
     let count = moves_count bs (row_at p) in
     let below : j < moves_at bs (row_at p) = omega arith in
-    c.number-at.ensures ∙ ap (λ o. number bs (o + (6 + 2 * j))) c.record-at.ensures ∙ sym (move_is bs (row_at p) j below)
+    c.number_at.ensures ∙ ap (λ o. number bs (o + (6 + 2 * j))) c.record_at.ensures ∙ sym (move_is bs (row_at p) j below)

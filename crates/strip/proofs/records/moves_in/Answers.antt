@@ -11,6 +11,6 @@ loop-j-preserved c =
     let place : 6 + 2 * j ≡ move_at 0 j = omega arith in (
       simp length-set inv.0,
       below_more _ _ (λ i l. let ne : i ≢ j = omega arith in rw get_or-set_other (inv.1 i l))
-          (rw get_or-set_same (c.number-at.ensures ∙ ap (number c.args.bytes.now) place)),
+          (rw get_or-set_same (c.number_at.ensures ∙ ap (number c.args.bytes.now) place)),
       λ i l. let ne : i ≢ j = omega arith in rw get_or-set_other (inv.2 i (omega arith)),
     )

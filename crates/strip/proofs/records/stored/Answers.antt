@@ -20,33 +20,33 @@ module _ (bs : List ℕ) where
   right : None ≡ record_wrong bs 65536 8 0 → RowRight bs 65536 8 0
   right e = record_right bs 65536 8 0 (sym (e ∙ record_is bs 65536 8 0))
 
-pub returns-in-default : goal.returns-in-default
-returns-in-default c =
+pub returns-in_default : goal.returns-in_default
+returns-in_default c =
     let bs = c.args.bytes.now in
-    let found : sound bs ≡ false = ap (λ o. not (holds o)) (sym (c.in-default.ensures ∙ record_is bs 65536 8 0)) in
+    let found : sound bs ≡ false = ap (λ o. not (holds o)) (sym (c.in_default.ensures ∙ record_is bs 65536 8 0)) in
     sym (within_false _ (row_from bs 0) (and_right (long bs) (sound bs) found))
 
-pub moves-in-requires : goal.moves-in-requires
-moves-in-requires c =
+pub moves_in-requires : goal.moves_in-requires
+moves_in-requires c =
     let r = right c.args.bytes.now c.in-Ok.ensures in
     let few : moves_at c.args.bytes.now 0 ≤ 16 = r.few in
     omega arith
 
-pub invariant-of-result : goal.invariant-of-result
-invariant-of-result c =
+pub invariant_of-result : goal.invariant_of-result
+invariant_of-result c =
     let bs = c.args.bytes.now in
     let r = right bs c.in-Ok.ensures in
     let few : moves_at bs 0 ≤ 16 = r.few in (
-      c.moves-in.ensures.wide,
+      c.moves_in.ensures.wide,
       (
         omega arith,
         (
           (λ i j l m.
               let up = moves_rise bs 0 65536 8 r i j l (omega arith) in
-              let a = c.moves-in.ensures.used i (omega arith) in
-              let b = c.moves-in.ensures.used j m in
+              let a = c.moves_in.ensures.used i (omega arith) in
+              let b = c.moves_in.ensures.used j m in
               omega arith),
-          (c.moves-in.ensures.unused, tt),
+          (c.moves_in.ensures.unused, tt),
         ),
       ),
     )
@@ -56,9 +56,9 @@ returns c =
     let bs = c.args.bytes.now in
     let r = right bs c.in-Ok.ensures in
     let few : moves_at bs 0 ≤ 16 = r.few in
-    let owner = c.owner-in.ensures (omega (arith, r.owned)) in
-    let moves = front_listed (λ j. number bs (move_at 0 j)) c.number-at-count.result c.moves-in.result (omega (arith, c.moves-in.ensures.wide)) c.moves-in.ensures.used in
+    let owner = c.owner_in.ensures (omega (arith, r.owned)) in
+    let moves = front_listed (λ j. number bs (move_at 0 j)) c.number_at-count.result c.moves_in.result (omega (arith, c.moves_in.ensures.wide)) c.moves_in.ensures.used in
     let none : sound bs ≡ true = ap (λ o. not (holds o)) (sym (c.in-Ok.ensures ∙ record_is bs 65536 8 0)) in
     let there = within_true _ (row_from bs 0) (and_from (long bs) (sound bs) (eq-eqb (length bs) 38 (omega arith)) none) in
-    let count = ap (λ n. map (λ j. number bs (move_at 0 j)) (upto n)) c.number-at-count.ensures in
+    let count = ap (λ n. map (λ j. number bs (move_at 0 j)) (upto n)) c.number_at-count.ensures in
     cc

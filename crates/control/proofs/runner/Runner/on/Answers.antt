@@ -6,7 +6,7 @@ use Rattle.control.specs.declared.runner.Turn.TheVariants.{Nobody, Controller, T
 use Rattle.control.specs.declared.runner.RunFault.TheVariants.{NotNow}
 use Rattle.control.proofs.Turns.{called, turned_down, controllers_turn, traffics_turn, go_out, moved_out}
 use Rattle.control.proofs.runner.Runner.on.Goals as goal
-use Rattle.control.proofs.runner.Runner.on.Goals.{in-default-Start+in-ok-begin, in-Controller-Go+in-ok-make, in-Traffic-Moved+in-ok-position}
+use Rattle.control.proofs.runner.Runner.on.Goals.{in_default-Start+in_ok-begin, in-Controller-Go+in_ok-make, in-Traffic-Moved+in_ok-position}
 
 pub returns : goal.returns
 returns g c =
@@ -15,28 +15,28 @@ returns g c =
     let bs = c.args.certificate.now in
     let to = c.match-event.position in
     elim c.match-event.branch [
-      | in-default-Start+in-ok-begin w ↦ called m before bs c.args.event (Start w.in-default-Start.p) to (w.in-ok-begin.position, w.in-ok-begin.aim) w.in-default-Start.is-1 w.position-is w.in-ok-begin.ensures
-      | in-Controller-Go+in-ok-make w ↦ called m before bs c.args.event Go to (w.in-ok-make.position, w.in-ok-make.aim) w.in-Controller-Go.is-1 w.position-is w.in-ok-make.ensures
-      | in-Traffic-Moved+in-ok-position w ↦ called m before bs c.args.event (Moved w.in-Traffic-Moved.q) to (w.in-ok-position.position, w.in-ok-position.aim) w.in-Traffic-Moved.is-1 w.position-is w.in-ok-position.ensures
+      | in_default-Start+in_ok-begin w ↦ called m before bs c.args.event (Start w.in_default-Start.p) to (w.in_ok-begin.position, w.in_ok-begin.aim) w.in_default-Start.is-1 w.position-is w.in_ok-begin.ensures
+      | in-Controller-Go+in_ok-make w ↦ called m before bs c.args.event Go to (w.in_ok-make.position, w.in_ok-make.aim) w.in-Controller-Go.is-1 w.position-is w.in_ok-make.ensures
+      | in-Traffic-Moved+in_ok-position w ↦ called m before bs c.args.event (Moved w.in-Traffic-Moved.q) to (w.in_ok-position.position, w.in_ok-position.aim) w.in-Traffic-Moved.is-1 w.position-is w.in_ok-position.ensures
     ]
 
-pub returns-in-err-begin : goal.returns-in-err-begin
-returns-in-err-begin g c =
-    let r = err_from_is_err_and c.from-residual.result c.from-residual.ensures.1 in
-    turned_down (g.A.Arena.meaning c.args.self.now.arena) c.args.self.now c.args.certificate.now c.args.event (Start c.in-default-Start.p) c.from-residual.result c.in-err-begin.field-0.0
-    c.in-default-Start.is-1 (r.1 ∙ ap Err r.2) c.in-err-begin.ensures
+pub returns-in_err-begin : goal.returns-in_err-begin
+returns-in_err-begin g c =
+    let r = err_from_is_err_and c.from_residual.result c.from_residual.ensures.1 in
+    turned_down (g.A.Arena.meaning c.args.self.now.arena) c.args.self.now c.args.certificate.now c.args.event (Start c.in_default-Start.p) c.from_residual.result c.in_err-begin.field-0.0
+    c.in_default-Start.is-1 (r.1 ∙ ap Err r.2) c.in_err-begin.ensures
 
-pub returns-in-err-make : goal.returns-in-err-make
-returns-in-err-make g c =
-    let r = err_from_is_err_and c.from-residual-in-err-make.result c.from-residual-in-err-make.ensures.1 in
-    turned_down (g.A.Arena.meaning c.args.self.now.arena) c.args.self.now c.args.certificate.now c.args.event Go c.from-residual-in-err-make.result c.in-err-make.field-0.0
-    c.in-Controller-Go.is-1 (r.1 ∙ ap Err r.2) c.in-err-make.ensures
+pub returns-in_err-make : goal.returns-in_err-make
+returns-in_err-make g c =
+    let r = err_from_is_err_and c.from_residual-in_err-make.result c.from_residual-in_err-make.ensures.1 in
+    turned_down (g.A.Arena.meaning c.args.self.now.arena) c.args.self.now c.args.certificate.now c.args.event Go c.from_residual-in_err-make.result c.in_err-make.field-0.0
+    c.in-Controller-Go.is-1 (r.1 ∙ ap Err r.2) c.in_err-make.ensures
 
-pub returns-in-err-position : goal.returns-in-err-position
-returns-in-err-position g c =
-    let r = err_from_is_err_and c.from-residual-in-err-position.result c.from-residual-in-err-position.ensures.1 in
-    turned_down (g.A.Arena.meaning c.args.self.now.arena) c.args.self.now c.args.certificate.now c.args.event (Moved c.in-Traffic-Moved.q) c.from-residual-in-err-position.result c.in-err-position.field-0.0
-    c.in-Traffic-Moved.is-1 (r.1 ∙ ap Err r.2) c.in-err-position.ensures
+pub returns-in_err-position : goal.returns-in_err-position
+returns-in_err-position g c =
+    let r = err_from_is_err_and c.from_residual-in_err-position.result c.from_residual-in_err-position.ensures.1 in
+    turned_down (g.A.Arena.meaning c.args.self.now.arena) c.args.self.now c.args.certificate.now c.args.event (Moved c.in-Traffic-Moved.q) c.from_residual-in_err-position.result c.in_err-position.field-0.0
+    c.in-Traffic-Moved.is-1 (r.1 ∙ ap Err r.2) c.in_err-position.ensures
 
 pub make-requires : goal.make-requires
 make-requires g c = controllers_turn (g.A.Arena.meaning c.args.self.now.arena) (place_of c.args.self.now) c.in-Controller-Go.ensures

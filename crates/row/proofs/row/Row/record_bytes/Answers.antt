@@ -11,7 +11,7 @@ loop-i-preserved c =
     let i = c.loop-i.i in
     let inside : i < length c.loop-i.bytes = omega arith in (
       simp length-set inv.0,
-      below_more _ _ (λ k l. let ne : k ≢ i = omega arith in rw get_or-set_other (inv.1 k l)) (rw get_or-set_same c.record-byte.ensures),
+      below_more _ _ (λ k l. let ne : k ≢ i = omega arith in rw get_or-set_other (inv.1 k l)) (rw get_or-set_same c.record_byte.ensures),
     )
 
 pub returns : goal.returns

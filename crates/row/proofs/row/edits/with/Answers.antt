@@ -7,5 +7,5 @@ loop-j-preserved c =
     let j = c.loop-j.j in
     let inside : j < length c.loop-j.all = omega arith in (
       simp length-set inv.0,
-      below_more _ _ (λ i l. let ne : i ≢ j = omega arith in rw get_or-set_other (inv.1 i l)) (rw get_or-set_same c.nth-with.ensures),
+      below_more _ _ (λ i l. let ne : i ≢ j = omega arith in rw get_or-set_other (inv.1 i l)) (rw get_or-set_same c.nth_with.ensures),
     )

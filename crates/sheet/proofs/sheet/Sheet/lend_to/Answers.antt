@@ -5,26 +5,26 @@ use Rattle.row.specs.Rows.{meaning_of}
 use Rattle.sheet.specs.Slots.{Below, Moved, arena_drawn, is_empty, row_at, rows_of}
 use Rattle.sheet.proofs.sheet.Sheet.lend_to.Goals as goal
 
-pub invariant-of-into : goal.invariant-of-into
-invariant-of-into c =
+pub invariant_of-into : goal.invariant_of-into
+invariant_of-into c =
     let s = c.args.self.now in
     let drawn = rows_of (vec_items s.slots) in
     let n : ℕ = vec_len s.slots in
-    let value = sym c.as-slice-into.ensures.value in
-    let len = sym c.as-slice-into.ensures.len in
+    let value = sym c.as_slice-into.ensures.value in
+    let len = sym c.as_slice-into.ensures.len in
     let moved : Moved n drawn = λ p l.
     let some : length (row_at drawn p).moves ≡ 0 → ⊥ = eqb-false (length (row_at drawn p).moves) 0 (least_none (is_empty drawn) n c.requires p l) in
     elim (cases_lt 0 (length (row_at drawn p).moves)) [ inl h ↦ h | inr h ↦ absurd (some (omega arith)) ] in (
       omega (arith, len, s.few),
       (
-        subst (λ m. Moved m (rows_of c.as-slice-into.result.now)) len (subst (λ xs. Moved n (rows_of xs)) value moved),
-        (subst (λ m. Below m (rows_of c.as-slice-into.result.now)) len (subst (λ xs. Below n (rows_of xs)) value s.below), tt),
+        subst (λ m. Moved m (rows_of c.as_slice-into.result.now)) len (subst (λ xs. Moved n (rows_of xs)) value moved),
+        (subst (λ m. Below m (rows_of c.as_slice-into.result.now)) len (subst (λ xs. Below n (rows_of xs)) value s.below), tt),
       ),
     )
 
 pub returns : goal.returns
 returns c =
     let s = c.args.self.now in
-    let value = c.as-slice-into.ensures.value in
-    let len = sym (ap length value) ∙ c.as-slice-into.ensures.len in
+    let value = c.as_slice-into.ensures.value in
+    let len = sym (ap length value) ∙ c.as_slice-into.ensures.len in
     ap (arena_drawn s.goals) value ∙ ap (λ n. meaning_of n s.goals (row_at (rows_of (vec_items s.slots)))) len

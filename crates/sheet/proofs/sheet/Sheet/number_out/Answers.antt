@@ -6,8 +6,8 @@ use Rattle.sheet.proofs.sheet.Sheet.number_out.Goals as goal
 
 pub returns : goal.returns
 returns c =
-    let value = c.as-slice.ensures.value in
-    let len = sym (ap length value) ∙ c.as-slice.ensures.len in
+    let value = c.as_slice.ensures.value in
+    let len = sym (ap length value) ∙ c.as_slice.ensures.len in
     record {
       answer =
           c.count_out.ensures

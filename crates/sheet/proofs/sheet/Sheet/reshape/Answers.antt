@@ -3,12 +3,12 @@ use Rattle.sheet.specs.Slots.{Below, Marked}
 use Rattle.sheet.proofs.Keeping.{empties_below, empties_marked}
 use Rattle.sheet.proofs.sheet.Sheet.reshape.Goals as goal
 
-pub invariant-of-self : goal.invariant-of-self
-invariant-of-self c =
-    let n : ℕ = vec_len c.fill-empty.new.slots in
+pub invariant_of-self : goal.invariant_of-self
+invariant_of-self c =
+    let n : ℕ = vec_len c.fill_empty.new.slots in
     let few = c.requires.positions in
     let goals = c.requires.goals in
-    let len = c.fill-empty.ensures.len in (
+    let len = c.fill_empty.ensures.len in (
       goals.0,
       (
         goals.1,
@@ -17,10 +17,10 @@ invariant-of-self c =
           (
             omega (arith, few.1, len),
             (
-              omega (arith, c.fill-empty.ensures.cap),
+              omega (arith, c.fill_empty.ensures.cap),
               (
-                subst (Below n) (sym c.fill-empty.ensures.drawn) (empties_below n c.args.n),
-                (subst (Marked n c.args.k) (sym c.fill-empty.ensures.drawn) (empties_marked n c.args.n c.args.k), tt),
+                subst (Below n) (sym c.fill_empty.ensures.drawn) (empties_below n c.args.n),
+                (subst (Marked n c.args.k) (sym c.fill_empty.ensures.drawn) (empties_marked n c.args.n c.args.k), tt),
               ),
             ),
           ),

@@ -5,17 +5,17 @@ use Rattle.sheet.specs.Slots.{Below, Marked, rows_of}
 use Rattle.sheet.proofs.Keeping.{stored_below, stored_marked}
 use Rattle.sheet.proofs.sheet.Sheet.store.Goals as goal
 
-pub invariant-of-self : goal.invariant-of-self
-invariant-of-self c =
+pub invariant_of-self : goal.invariant_of-self
+invariant_of-self c =
     let s = c.args.self.now in
     let n : ℕ = vec_len s.slots in
     let p = c.args.p in
     let row = row_of c.args.row in
     let drawn = rows_of (vec_items s.slots) in
-    let len = sym c.set-row.ensures.len in
+    let len = sym c.set_row.ensures.len in
     let inside : p < length drawn = omega (arith, c.requires.inside, s.slots.ok.0, length-map (vec_items s.slots) (λ h. row_of h.row)) in
-    let below : Below n (rows_of (vec_items c.set-row.new.slots)) = subst (Below n) (sym c.set-row.ensures.drawn) (stored_below n drawn p row inside c.requires.moves s.below) in
-    let marked : Marked n s.goals (rows_of (vec_items c.set-row.new.slots)) = subst (Marked n s.goals) (sym c.set-row.ensures.drawn) (stored_marked n s.goals drawn p row inside c.requires.marks s.marked) in (
+    let below : Below n (rows_of (vec_items c.set_row.new.slots)) = subst (Below n) (sym c.set_row.ensures.drawn) (stored_below n drawn p row inside c.requires.moves s.below) in
+    let marked : Marked n s.goals (rows_of (vec_items c.set_row.new.slots)) = subst (Marked n s.goals) (sym c.set_row.ensures.drawn) (stored_marked n s.goals drawn p row inside c.requires.marks s.marked) in (
       s.goaled,
       (
         s.bounded,
@@ -24,10 +24,10 @@ invariant-of-self c =
           (
             omega (arith, len, s.few),
             (
-              omega (arith, c.set-row.ensures.cap, s.room),
+              omega (arith, c.set_row.ensures.cap, s.room),
               (
-                subst (λ m. Below m (rows_of (vec_items c.set-row.new.slots))) len below,
-                (subst (λ m. Marked m s.goals (rows_of (vec_items c.set-row.new.slots))) len marked, tt),
+                subst (λ m. Below m (rows_of (vec_items c.set_row.new.slots))) len below,
+                (subst (λ m. Marked m s.goals (rows_of (vec_items c.set_row.new.slots))) len marked, tt),
               ),
             ),
           ),

@@ -17,10 +17,10 @@ returns c =
     let bytes : List ℕ = c.args.bytes.now in
     let items = vec_items s.slots in
     let n : ℕ = vec_len s.slots in
-    let value = c.as-slice.ensures.value in
-    let len : length items ≡ n = sym (ap length value) ∙ c.as-slice.ensures.len in
-    let e : c.put-strip.new.bytes ≡ strip_of (sheet_of s) ++ drop (strip_bytes n) bytes =
-    c.put-strip.ensures
+    let value = c.as_slice.ensures.value in
+    let len : length items ≡ n = sym (ap length value) ∙ c.as_slice.ensures.len in
+    let e : c.put_strip.new.bytes ≡ strip_of (sheet_of s) ++ drop (strip_bytes n) bytes =
+    c.put_strip.ensures
     ∙ ap (λ xs. strip (length xs) k (row_at (rows_of xs)) ++ drop (strip_bytes (length xs)) bytes) value
     ∙ ap (λ m. strip m k (row_at (rows_of items)) ++ drop (strip_bytes m) bytes) len in
     let good : (p : ℕ) → p < n → Good n k (row_on (sheet_of s) p) = λ p l.
@@ -33,5 +33,5 @@ returns c =
     } in
     record {
       strip = e;
-      back = write_reads (sheet_of s) s.drawn s.few s.goaled s.bounded (length-map items (λ h. row_of h.row) ∙ len) good c.put-strip.new.bytes (drop (strip_bytes n) bytes) e;
+      back = write_reads (sheet_of s) s.drawn s.few s.goaled s.bounded (length-map items (λ h. row_of h.row) ∙ len) good c.put_strip.new.bytes (drop (strip_bytes n) bytes) e;
     }
