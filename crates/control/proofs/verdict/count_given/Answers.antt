@@ -13,11 +13,11 @@ loop-p-preserved g c =
     let p = c.loop-p.p in
     elim c.if-side_of-eq0.branch [
       | then-side_of-eq0 w ↦ (
-        omega (arith, w.count_is, c.loop-p.invariant.0),
-        count_in (ours m bs) p c.loop-p.count c.if-side_of-eq0.count c.loop-p.invariant.1 (sym (eq-eqb (side_of m bs p) 0 (omega arith))) w.count_is,
+        omega (arith, w.count-is, c.loop-p.invariant.0),
+        count_in (ours m bs) p c.loop-p.count c.if-side_of-eq0.count c.loop-p.invariant.1 (sym (eq-eqb (side_of m bs p) 0 (omega arith))) w.count-is,
       )
       | else-side_of-eq0 w ↦ (
-        omega (arith, w.count_is, c.loop-p.invariant.0),
-        count_out (ours m bs) p c.loop-p.count c.if-side_of-eq0.count c.loop-p.invariant.1 (sym (ne_eqb (side_of m bs p) 0 (λ e. w.if-side_of-eq0.false (omega arith)))) w.count_is,
+        omega (arith, w.count-is, c.loop-p.invariant.0),
+        count_out (ours m bs) p c.loop-p.count c.if-side_of-eq0.count c.loop-p.invariant.1 (sym (ne_eqb (side_of m bs p) 0 (λ e. w.if-side_of-eq0.false (omega arith)))) w.count-is,
       )
     ]

@@ -6,7 +6,7 @@ use Rattle.control.specs.declared.runner.Turn.TheVariants.{Nobody, Controller, T
 use Rattle.control.specs.declared.runner.RunFault.TheVariants.{NotNow}
 use Rattle.control.proofs.Turns.{called, turned_down, controllers_turn, traffics_turn, go_out, moved_out}
 use Rattle.control.proofs.runner.Runner.on.Goals as goal
-use Rattle.control.proofs.runner.Runner.on.Goals.{in_default-Start+in_ok-begin, in-Controller-Go+in_ok-make, in-Traffic-Moved+in_ok-position}
+use Rattle.control.proofs.runner.Runner.on.Goals.{in_default-Start+in_ok-begin-in_default-Start, in-Controller-Go+in_ok-make-in-Controller-Go, in-Traffic-Moved+in_ok-position-in-Traffic-Moved}
 
 pub returns : goal.returns
 returns g c =
@@ -15,25 +15,25 @@ returns g c =
     let bs = c.args.certificate.now in
     let to = c.match-event.position in
     elim c.match-event.branch [
-      | in_default-Start+in_ok-begin w ↦ called m before bs c.args.event (Start w.in_default-Start.p) to (w.in_ok-begin.position, w.in_ok-begin.aim) w.in_default-Start.is-1 w.position-is w.in_ok-begin.ensures
-      | in-Controller-Go+in_ok-make w ↦ called m before bs c.args.event Go to (w.in_ok-make.position, w.in_ok-make.aim) w.in-Controller-Go.is-1 w.position-is w.in_ok-make.ensures
-      | in-Traffic-Moved+in_ok-position w ↦ called m before bs c.args.event (Moved w.in-Traffic-Moved.q) to (w.in_ok-position.position, w.in_ok-position.aim) w.in-Traffic-Moved.is-1 w.position-is w.in_ok-position.ensures
+      | in_default-Start+in_ok-begin-in_default-Start w ↦ called m before bs c.args.event (Start w.in_default-Start.p) to (w.in_ok-begin.position, w.in_ok-begin.aim) w.in_default-Start.is-1 w.position-is w.in_ok-begin.ensures
+      | in-Controller-Go+in_ok-make-in-Controller-Go w ↦ called m before bs c.args.event Go to (w.in_ok-make.position, w.in_ok-make.aim) w.in-Controller-Go.is-1 w.position-is w.in_ok-make.ensures
+      | in-Traffic-Moved+in_ok-position-in-Traffic-Moved w ↦ called m before bs c.args.event (Moved w.in-Traffic-Moved.q) to (w.in_ok-position.position, w.in_ok-position.aim) w.in-Traffic-Moved.is-1 w.position-is w.in_ok-position.ensures
     ]
 
-pub returns-in_err-begin : goal.returns-in_err-begin
-returns-in_err-begin g c =
+pub returns-in_err-begin-in_default-Start : goal.returns-in_err-begin-in_default-Start
+returns-in_err-begin-in_default-Start g c =
     let r = err_from_is_err_and c.from_residual.result c.from_residual.ensures.1 in
     turned_down (g.A.Arena.meaning c.args.self.now.arena) c.args.self.now c.args.certificate.now c.args.event (Start c.in_default-Start.p) c.from_residual.result c.in_err-begin.field-0.0
     c.in_default-Start.is-1 (r.1 ∙ ap Err r.2) c.in_err-begin.ensures
 
-pub returns-in_err-make : goal.returns-in_err-make
-returns-in_err-make g c =
+pub returns-in_err-make-in-Controller-Go : goal.returns-in_err-make-in-Controller-Go
+returns-in_err-make-in-Controller-Go g c =
     let r = err_from_is_err_and c.from_residual-in_err-make.result c.from_residual-in_err-make.ensures.1 in
     turned_down (g.A.Arena.meaning c.args.self.now.arena) c.args.self.now c.args.certificate.now c.args.event Go c.from_residual-in_err-make.result c.in_err-make.field-0.0
     c.in-Controller-Go.is-1 (r.1 ∙ ap Err r.2) c.in_err-make.ensures
 
-pub returns-in_err-position : goal.returns-in_err-position
-returns-in_err-position g c =
+pub returns-in_err-position-in-Traffic-Moved : goal.returns-in_err-position-in-Traffic-Moved
+returns-in_err-position-in-Traffic-Moved g c =
     let r = err_from_is_err_and c.from_residual-in_err-position.result c.from_residual-in_err-position.ensures.1 in
     turned_down (g.A.Arena.meaning c.args.self.now.arena) c.args.self.now c.args.certificate.now c.args.event (Moved c.in-Traffic-Moved.q) c.from_residual-in_err-position.result c.in_err-position.field-0.0
     c.in-Traffic-Moved.is-1 (r.1 ∙ ap Err r.2) c.in_err-position.ensures

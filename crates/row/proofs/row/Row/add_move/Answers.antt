@@ -6,7 +6,7 @@ use Rattle.row.proofs.row.Row.add_move.Goals as goal
 pub invariant_of-self : goal.invariant_of-self
 invariant_of-self c =
     let d = added c.args.self.now c.moves-moves.result.now c.moves-moves.ensures c.args.q c.place-at.result c.place-at.ensures c.with-moves.result c.with-moves.ensures.wide c.requires.new c.requires.room c.with-moves.ensures.same in
-    (c.with-moves.ensures.wide, (d.few, (d.rising, (d.unused, tt))))
+    record { wide = c.with-moves.ensures.wide; few = d.few; rising = d.rising; unused = d.unused }
 
 pub returns : goal.returns
 returns c =

@@ -16,7 +16,7 @@ without-moves-requires c =
 pub invariant_of-self : goal.invariant_of-self
 invariant_of-self c =
     let d = struck c.args.self.now c.moves-moves.result.now c.moves-moves.ensures c.args.q c.place-at.result c.place-at.ensures c.without-moves.result c.without-moves.ensures.wide (sym c.if-not-has_move.ensures) c.without-moves.ensures.same in
-    (c.without-moves.ensures.wide, (d.few, (d.rising, (d.unused, tt))))
+    record { wide = c.without-moves.ensures.wide; few = d.few; rising = d.rising; unused = d.unused }
 
 pub returns : goal.returns
 returns c =
