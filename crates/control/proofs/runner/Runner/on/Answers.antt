@@ -15,28 +15,28 @@ returns g c =
     let bs = c.args.certificate.now in
     let to = c.match-event.position in
     elim c.match-event.branch [
-      | in_default-Start+in_ok-begin-in_default-Start w ↦ called m before bs c.args.event (Start w.in_default-Start.p) to (w.in_ok-begin.position, w.in_ok-begin.aim) w.in_default-Start.is-1 w.position-is w.in_ok-begin.ensures
-      | in-Controller-Go+in_ok-make-in-Controller-Go w ↦ called m before bs c.args.event Go to (w.in_ok-make.position, w.in_ok-make.aim) w.in-Controller-Go.is-1 w.position-is w.in_ok-make.ensures
-      | in-Traffic-Moved+in_ok-position-in-Traffic-Moved w ↦ called m before bs c.args.event (Moved w.in-Traffic-Moved.q) to (w.in_ok-position.position, w.in_ok-position.aim) w.in-Traffic-Moved.is-1 w.position-is w.in_ok-position.ensures
+      | in_default-Start+in_ok-begin-in_default-Start w ↦ called m before bs c.args.event (Start w.in_default-Start.p) to (w.in_ok-begin-in_default-Start.position, w.in_ok-begin-in_default-Start.aim) w.in_default-Start.is-1 w.position-is w.in_ok-begin-in_default-Start.ensures
+      | in-Controller-Go+in_ok-make-in-Controller-Go w ↦ called m before bs c.args.event Go to (w.in_ok-make-in-Controller-Go.position, w.in_ok-make-in-Controller-Go.aim) w.in-Controller-Go.is-1 w.position-is w.in_ok-make-in-Controller-Go.ensures
+      | in-Traffic-Moved+in_ok-position-in-Traffic-Moved w ↦ called m before bs c.args.event (Moved w.in-Traffic-Moved.q) to (w.in_ok-position-in-Traffic-Moved.position, w.in_ok-position-in-Traffic-Moved.aim) w.in-Traffic-Moved.is-1 w.position-is w.in_ok-position-in-Traffic-Moved.ensures
     ]
 
 pub returns-in_err-begin-in_default-Start : goal.returns-in_err-begin-in_default-Start
 returns-in_err-begin-in_default-Start g c =
     let r = err_from_is_err_and c.from_residual.result c.from_residual.ensures.1 in
-    turned_down (g.A.Arena.meaning c.args.self.now.arena) c.args.self.now c.args.certificate.now c.args.event (Start c.in_default-Start.p) c.from_residual.result c.in_err-begin.field-0.0
-    c.in_default-Start.is-1 (r.1 ∙ ap Err r.2) c.in_err-begin.ensures
+    turned_down (g.A.Arena.meaning c.args.self.now.arena) c.args.self.now c.args.certificate.now c.args.event (Start c.in_default-Start.p) c.from_residual.result c.in_err-begin-in_default-Start.field-0.0
+    c.in_default-Start.is-1 (r.1 ∙ ap Err r.2) c.in_err-begin-in_default-Start.ensures
 
 pub returns-in_err-make-in-Controller-Go : goal.returns-in_err-make-in-Controller-Go
 returns-in_err-make-in-Controller-Go g c =
-    let r = err_from_is_err_and c.from_residual-in_err-make.result c.from_residual-in_err-make.ensures.1 in
-    turned_down (g.A.Arena.meaning c.args.self.now.arena) c.args.self.now c.args.certificate.now c.args.event Go c.from_residual-in_err-make.result c.in_err-make.field-0.0
-    c.in-Controller-Go.is-1 (r.1 ∙ ap Err r.2) c.in_err-make.ensures
+    let r = err_from_is_err_and c.from_residual-in_err-make-in-Controller-Go.result c.from_residual-in_err-make-in-Controller-Go.ensures.1 in
+    turned_down (g.A.Arena.meaning c.args.self.now.arena) c.args.self.now c.args.certificate.now c.args.event Go c.from_residual-in_err-make-in-Controller-Go.result c.in_err-make-in-Controller-Go.field-0.0
+    c.in-Controller-Go.is-1 (r.1 ∙ ap Err r.2) c.in_err-make-in-Controller-Go.ensures
 
 pub returns-in_err-position-in-Traffic-Moved : goal.returns-in_err-position-in-Traffic-Moved
 returns-in_err-position-in-Traffic-Moved g c =
-    let r = err_from_is_err_and c.from_residual-in_err-position.result c.from_residual-in_err-position.ensures.1 in
-    turned_down (g.A.Arena.meaning c.args.self.now.arena) c.args.self.now c.args.certificate.now c.args.event (Moved c.in-Traffic-Moved.q) c.from_residual-in_err-position.result c.in_err-position.field-0.0
-    c.in-Traffic-Moved.is-1 (r.1 ∙ ap Err r.2) c.in_err-position.ensures
+    let r = err_from_is_err_and c.from_residual-in_err-position-in-Traffic-Moved.result c.from_residual-in_err-position-in-Traffic-Moved.ensures.1 in
+    turned_down (g.A.Arena.meaning c.args.self.now.arena) c.args.self.now c.args.certificate.now c.args.event (Moved c.in-Traffic-Moved.q) c.from_residual-in_err-position-in-Traffic-Moved.result c.in_err-position-in-Traffic-Moved.field-0.0
+    c.in-Traffic-Moved.is-1 (r.1 ∙ ap Err r.2) c.in_err-position-in-Traffic-Moved.ensures
 
 pub make-requires : goal.make-requires
 make-requires g c = controllers_turn (g.A.Arena.meaning c.args.self.now.arena) (place_of c.args.self.now) c.in-Controller-Go.ensures
