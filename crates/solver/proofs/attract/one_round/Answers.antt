@@ -27,13 +27,13 @@ loop-p-preserved g c =
     elim c.if-work-at-eq0.branch [
       | goal.then-work-at-eq0+then-is_drawn_in w ↦
           let d = next_new m c.args.side at i p e v pn c.requires.room c.requires.ranked.low inv.0 w.if-work-at-eq0.true true w.if-is_drawn_in.ensures in
-          simp (w.work_is, w.more-is) (column_more p at f e v (i + 2) inv.0 pv (sym d), λ z. absurd (true≢false z))
+          simp (w.work-is, w.more-is) (column_more p at f e v (i + 2) inv.0 pv (sym d), λ z. absurd (true≢false z))
       | goal.then-work-at-eq0+else-is_drawn_in w ↦
           let d = next_new m c.args.side at i p e v pn c.requires.room c.requires.ranked.low inv.0 w.if-work-at-eq0.true false w.if-is_drawn_in.ensures in
-          simp (w.work_is, w.more-is) (column_pass p at f e v inv.0 (w.if-work-at-eq0.true ∙ sym d), inv.1)
+          simp (w.work-is, w.more-is) (column_pass p at f e v inv.0 (w.if-work-at-eq0.true ∙ sym d), inv.1)
       | goal.else-work-at-eq0 w ↦
           let d = next_old m c.args.side at i p e v pn c.requires.room c.requires.ranked.low inv.0 w.if-work-at-eq0.false in
-          simp (w.work_is, w.more-is) (column_pass p at f e v inv.0 d, inv.1)
+          simp (w.work-is, w.more-is) (column_pass p at f e v inv.0 d, inv.1)
     ]
 
 pub returns : goal.returns

@@ -20,10 +20,10 @@ loop-p-preserved c =
     elim c.if-work-near-ne0.branch [
       | goal.then-work-near-ne0 u ↦
           let d = given_new n at p (λ _. c.args.x) w v (omega arith) (omega arith) inv u.if-work-near-ne0.true in
-          simp u.work_is (column_more p at f w v c.args.x inv (omega arith) d)
+          simp u.work-is (column_more p at f w v c.args.x inv (omega arith) d)
       | goal.else-work-near-ne0 u ↦
           let d = given_old n at p (λ _. c.args.x) w v (omega arith) (omega arith) inv u.if-work-near-ne0.false in
-          simp u.work_is (column_pass p at f w v inv d)
+          simp u.work-is (column_pass p at f w v inv d)
     ]
 
 pub returns : goal.returns

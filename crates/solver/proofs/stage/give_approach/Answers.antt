@@ -22,10 +22,10 @@ loop-p-preserved c =
       | goal.then-x-ne0 u ↦
           let d = given_new n at p x w v (omega arith) (omega arith) inv u.if-x-ne0.true in
           let same : cell c.loop-p.work (3 * c.args.n) c.loop-p.p ≡ cell c.args.work.now (3 * c.args.n) c.loop-p.p = inv.high (3 * n + p) (omega arith) in
-          simp u.work_is (column_more p at f w v (cell v (3 * n) p - 1) inv (omega arith) (ap (λ y. y - 1) same ∙ d))
+          simp u.work-is (column_more p at f w v (cell v (3 * n) p - 1) inv (omega arith) (ap (λ y. y - 1) same ∙ d))
       | goal.else-x-ne0 u ↦
           let d = given_old n at p x w v (omega arith) (omega arith) inv u.if-x-ne0.false in
-          simp u.work_is (column_pass p at f w v inv d)
+          simp u.work-is (column_pass p at f w v inv d)
     ]
 
 pub returns : goal.returns

@@ -36,20 +36,17 @@ pub invariant_of-result : goal.invariant_of-result
 invariant_of-result c =
     let bs = c.args.bytes.now in
     let r = right bs c.in-Ok.ensures in
-    let few : moves_at bs 0 ≤ 16 = r.few in (
-      c.moves_in.ensures.wide,
-      (
-        omega arith,
-        (
-          (λ i j l m.
-              let up = moves_rise bs 0 65536 8 r i j l (omega arith) in
-              let a = c.moves_in.ensures.used i (omega arith) in
-              let b = c.moves_in.ensures.used j m in
-              omega arith),
-          (c.moves_in.ensures.unused, tt),
-        ),
-      ),
-    )
+    let few : moves_at bs 0 ≤ 16 = r.few in
+    record {
+      wide = c.moves_in.ensures.wide;
+      few = omega arith;
+      rising = λ i j l m.
+          let up = moves_rise bs 0 65536 8 r i j l (omega arith) in
+          let a = c.moves_in.ensures.used i (omega arith) in
+          let b = c.moves_in.ensures.used j m in
+          omega arith;
+      unused = c.moves_in.ensures.unused;
+    }
 
 pub returns : goal.returns
 returns c =
