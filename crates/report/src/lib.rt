@@ -1,12 +1,11 @@
 #![tactic(auto)]
 
-ghost use Rattle.std.specs.Prelude.{◌≡◌, ℕ, [], ◌∷◌, ◌++◌, is_ok, IfOk, string_bytes, codes, decimal, OnOk};
+ghost use Rattle.std.specs.Prelude.{◌≡◌, ℕ, [], ◌∷◌, ◌++◌, IfOk, string_bytes, codes, decimal, OnOk};
 ghost use Rattle.report.specs.Plan.{controller_text, decision_text, goal_text, move_text, plan_text, side_text, traffic_text};
 ghost use Rattle.report.specs.Text.{refusal_text};
 
 use arena::{Arena, approach_of, goal_move_of, goal_of, move_of, rank_of, side_of, stage_of};
 use std::alloc::{AllocError, Global};
-use std::fmt;
 
 /// The text of a plan: the numbers of positions and goals, how many positions are the controller's and how many stages
 /// there were, then a line for each position with what the certificate decides there.
@@ -95,21 +94,21 @@ fn push_traffic<A: Arena>(
 fn push_number(out: &mut String, n: u16) -> Result<(), AllocError>
     ensures { OnOk result (string_bytes out.new ≡ string_bytes out.old ++ decimal n) }
 {
-    added(write!(out, "{n}"))
+    write!(out, "{n}")
 }
 
 // Adds a rank, between a space and a colon.
 fn push_rank(out: &mut String, rank: u16) -> Result<(), AllocError>
     ensures { OnOk result (string_bytes out.new ≡ string_bytes out.old ++ (codes " " ++ (decimal rank ++ codes ":"))) }
 {
-    added(write!(out, " {rank}:"))
+    write!(out, " {rank}:")
 }
 
 // Adds the traffic's letter, goal, stage and approach, each with a space after it.
 fn push_stage(out: &mut String, goal: u8, stage: u16, approach: u16) -> Result<(), AllocError>
     ensures { OnOk result (string_bytes out.new ≡ string_bytes out.old ++ (codes " T " ++ (decimal goal ++ (codes " " ++ (decimal stage ++ (codes " " ++ (decimal approach ++ codes " "))))))) }
 {
-    added(write!(out, " T {goal} {stage} {approach} "))
+    write!(out, " T {goal} {stage} {approach} ")
 }
 
 // Adds a move, or the sign for none.
@@ -128,14 +127,4 @@ pub fn refusal(heap: Global, number: u8, place: usize) -> Result<String, AllocEr
     ensures { IfOk result (λ s. string_bytes s ≡ refusal_text number (place ∷ [])) }
 {
     format!(in heap; "refused {number} {place}\n")
-}
-
-// Writing to a string fails only for want of memory.
-fn added(res: fmt::Result) -> Result<(), AllocError>
-    ensures { is_ok result ≡ is_ok res }
-{
-    match res {
-        Ok(()) => Ok(()),
-        Err(_) => Err(AllocError),
-    }
 }

@@ -14,13 +14,12 @@ invariant_of-into c =
     let len = sym c.as_slice-into.ensures.len in
     let moved : Moved n drawn = λ p l.
     let some : length (row_at drawn p).moves ≡ 0 → ⊥ = eqb-false (length (row_at drawn p).moves) 0 (least_none (is_empty drawn) n c.requires p l) in
-    elim (cases_lt 0 (length (row_at drawn p).moves)) [ inl h ↦ h | inr h ↦ absurd (some (omega arith)) ] in (
-      omega (arith, len, s.few),
-      (
-        subst (λ m. Moved m (rows_of c.as_slice-into.result.now)) len (subst (λ xs. Moved n (rows_of xs)) value moved),
-        (subst (λ m. Below m (rows_of c.as_slice-into.result.now)) len (subst (λ xs. Below n (rows_of xs)) value s.below), tt),
-      ),
-    )
+    elim (cases_lt 0 (length (row_at drawn p).moves)) [ inl h ↦ h | inr h ↦ absurd (some (omega arith)) ] in
+    record {
+      few = omega (arith, len, s.few);
+      moved = subst (λ m. Moved m (rows_of c.as_slice-into.result.now)) len (subst (λ xs. Moved n (rows_of xs)) value moved);
+      below = subst (λ m. Below m (rows_of c.as_slice-into.result.now)) len (subst (λ xs. Below n (rows_of xs)) value s.below);
+    }
 
 pub returns : goal.returns
 returns c =

@@ -12,38 +12,26 @@ pub invariant_of-self : goal.invariant_of-self
 invariant_of-self c =
     let bs = c.args.strip.now in
     let h = sound bs c.requires in
-    let bytes : Bytes bs = λ i l. omega (arith, c.type-inv.strip i) in
+    let bytes : Bytes bs = λ i l. omega (arith, c.type_inv.strip i) in
     let drawn = rows_of (vec_items c.fill_read.new.slots) in
     let len : vec_len c.fill_read.new.slots ≡ size bs = c.fill_read.ensures.len ∙ c.number_at.ensures in
     let rows : drawn ≡ read bs bytes c.requires = c.fill_read.ensures.drawn ∙ ap (λ n. map (row_read bs) (upto n)) c.number_at.ensures in
-    let k : c.number_at-self.result ≡ goals bs = c.number_at-self.ensures in (
-      omega (arith, h.goals_low, k),
-      (
-        omega (arith, h.goals_high, k),
-        (
-          omega (arith, h.size_low, len),
-          (
-            omega (arith, h.size_high, len),
-            (
-              omega (arith, c.fill_read.ensures.cap, c.args.self.now.room),
-              (
-                subst (λ n. Below n drawn) (sym len) (subst (Below (size bs)) (sym rows) (read_below bs bytes c.requires)),
-                (
-                  subst (λ n. Marked n c.number_at-self.result drawn) (sym len)
-                      (subst (λ g. Marked (size bs) g drawn) (sym k) (subst (Marked (size bs) (goals bs)) (sym rows) (read_marked bs bytes c.requires))),
-                  tt,
-                ),
-              ),
-            ),
-          ),
-        ),
-      ),
-    )
+    let k : c.number_at-self.result ≡ goals bs = c.number_at-self.ensures in
+    record {
+      goaled = omega (arith, h.goals_low, k);
+      bounded = omega (arith, h.goals_high, k);
+      drawn = omega (arith, h.size_low, len);
+      few = omega (arith, h.size_high, len);
+      room = omega (arith, c.fill_read.ensures.cap, c.args.self.now.room);
+      below = subst (λ n. Below n drawn) (sym len) (subst (Below (size bs)) (sym rows) (read_below bs bytes c.requires));
+      marked = subst (λ n. Marked n c.number_at-self.result drawn) (sym len)
+          (subst (λ g. Marked (size bs) g drawn) (sym k) (subst (Marked (size bs) (goals bs)) (sym rows) (read_marked bs bytes c.requires)));
+    }
 
 pub returns : goal.returns
 returns c =
     let bs = c.args.strip.now in
-    let bytes : Bytes bs = λ i l. omega (arith, c.type-inv.strip i) in
+    let bytes : Bytes bs = λ i l. omega (arith, c.type_inv.strip i) in
     let items = vec_items c.fill_read.new.slots in
     let n = c.number_at.ensures in
     let len : vec_len c.fill_read.new.slots ≡ size bs = c.fill_read.ensures.len ∙ n in

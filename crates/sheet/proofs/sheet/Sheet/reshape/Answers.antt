@@ -8,22 +8,13 @@ invariant_of-self c =
     let n : ℕ = vec_len c.fill_empty.new.slots in
     let few = c.requires.positions in
     let goals = c.requires.goals in
-    let len = c.fill_empty.ensures.len in (
-      goals.0,
-      (
-        goals.1,
-        (
-          omega (arith, few.0, len),
-          (
-            omega (arith, few.1, len),
-            (
-              omega (arith, c.fill_empty.ensures.cap),
-              (
-                subst (Below n) (sym c.fill_empty.ensures.drawn) (empties_below n c.args.n),
-                (subst (Marked n c.args.k) (sym c.fill_empty.ensures.drawn) (empties_marked n c.args.n c.args.k), tt),
-              ),
-            ),
-          ),
-        ),
-      ),
-    )
+    let len = c.fill_empty.ensures.len in
+    record {
+      goaled = goals.0;
+      bounded = goals.1;
+      drawn = omega (arith, few.0, len);
+      few = omega (arith, few.1, len);
+      room = omega (arith, c.fill_empty.ensures.cap);
+      below = subst (Below n) (sym c.fill_empty.ensures.drawn) (empties_below n c.args.n);
+      marked = subst (Marked n c.args.k) (sym c.fill_empty.ensures.drawn) (empties_marked n c.args.n c.args.k);
+    }

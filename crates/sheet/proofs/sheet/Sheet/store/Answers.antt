@@ -15,22 +15,13 @@ invariant_of-self c =
     let len = sym c.set_row.ensures.len in
     let inside : p < length drawn = omega (arith, c.requires.inside, s.slots.ok.0, length-map (vec_items s.slots) (λ h. row_of h.row)) in
     let below : Below n (rows_of (vec_items c.set_row.new.slots)) = subst (Below n) (sym c.set_row.ensures.drawn) (stored_below n drawn p row inside c.requires.moves s.below) in
-    let marked : Marked n s.goals (rows_of (vec_items c.set_row.new.slots)) = subst (Marked n s.goals) (sym c.set_row.ensures.drawn) (stored_marked n s.goals drawn p row inside c.requires.marks s.marked) in (
-      s.goaled,
-      (
-        s.bounded,
-        (
-          omega (arith, len, s.drawn),
-          (
-            omega (arith, len, s.few),
-            (
-              omega (arith, c.set_row.ensures.cap, s.room),
-              (
-                subst (λ m. Below m (rows_of (vec_items c.set_row.new.slots))) len below,
-                (subst (λ m. Marked m s.goals (rows_of (vec_items c.set_row.new.slots))) len marked, tt),
-              ),
-            ),
-          ),
-        ),
-      ),
-    )
+    let marked : Marked n s.goals (rows_of (vec_items c.set_row.new.slots)) = subst (Marked n s.goals) (sym c.set_row.ensures.drawn) (stored_marked n s.goals drawn p row inside c.requires.marks s.marked) in
+    record {
+      goaled = s.goaled;
+      bounded = s.bounded;
+      drawn = omega (arith, len, s.drawn);
+      few = omega (arith, len, s.few);
+      room = omega (arith, c.set_row.ensures.cap, s.room);
+      below = subst (λ m. Below m (rows_of (vec_items c.set_row.new.slots))) len below;
+      marked = subst (λ m. Marked m s.goals (rows_of (vec_items c.set_row.new.slots))) len marked;
+    }
