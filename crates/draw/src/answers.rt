@@ -1,6 +1,5 @@
 use sheet_faults::Refusal;
 use std::alloc::AllocError;
-use std::fmt;
 
 /// What the program prints for one call.
 #[derive(Clone, Copy)]
@@ -21,20 +20,12 @@ pub enum Answer {
     NoCall,
 }
 
-/// What writing to a string answers, as want of memory.
-pub(crate) fn written(r: fmt::Result) -> Result<(), AllocError> {
-    match r {
-        Ok(()) => Ok(()),
-        Err(_) => Err(AllocError),
-    }
-}
-
 /// Adds the line of a refusal: its number, and what it names.
 fn push_refusal(out: &mut String, refusal: Refusal) -> Result<(), AllocError> {
     let number = refusal.number;
     match refusal.named {
-        Some(place) => written(write!(out, "refused {number} {place}\n")),
-        None => written(write!(out, "refused {number}\n")),
+        Some(place) => write!(out, "refused {number} {place}\n"),
+        None => write!(out, "refused {number}\n"),
     }
 }
 
@@ -44,7 +35,7 @@ pub(crate) fn push_answer(out: &mut String, answer: Answer) -> Result<(), AllocE
         Answer::Done => out.push_str("done\n"),
         Answer::Changed(true) => out.push_str("changed\n"),
         Answer::Changed(false) => out.push_str("unchanged\n"),
-        Answer::Number(n) => written(write!(out, "{n}\n")),
+        Answer::Number(n) => write!(out, "{n}\n"),
         Answer::Refused(refusal) => push_refusal(out, refusal),
         Answer::NotHeld => out.push_str("no slip\n"),
         Answer::NoRoom => out.push_str("no memory\n"),

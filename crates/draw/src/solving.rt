@@ -1,4 +1,4 @@
-use crate::answers::{Answer, push_answer, written};
+use crate::answers::{Answer, push_answer};
 use crate::hex::push_hex;
 use arena::{byte_at, number_at};
 use planner::{SheetSolveFault, solve_sheet};
@@ -48,7 +48,7 @@ pub(crate) fn solve(
     let mut work = vec![in heap; 0u16; NUMBERS]?;
     match solve_sheet(sheet, bytes.as_mut_slice(), work.as_mut_slice()) {
         Ok((c, s)) => {
-            written(write!(out, "solved {c} {s}\n"))?;
+            write!(out, "solved {c} {s}\n")?;
             keep(certificate, bytes.as_slice())?;
             push_hex(out, certificate.as_slice(), certificate.len())
         }
