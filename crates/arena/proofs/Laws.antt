@@ -1,5 +1,5 @@
 -- Two facts that follow from the laws of an arena and that all proofs of plays use.
-use Rattle.std.proofs.Common.{◌≡◌, ℕ, zero, suc, ◌<◌, true, ◌⊎◌, refl, subst, inl, inr, arith}
+use Rattle.std.proofs.Common.{◌≡◌, ℕ, zero, suc, ◌<◌, ◌⊎◌, refl, subst, inl, inr, arith}
 use Rattle.arena.specs.Arena.{Meaning, Lawful}
 use Rattle.arena.specs.Play.{Move}
 use Rattle.arena.proofs.Basics.{in_at}

@@ -1,6 +1,6 @@
 -- What a loop over the numbers below n needs of lists and searches: what is left at i is i and what is left at i + 1,
 -- and nothing at the end. So an invariant says that the answer over what is left is the answer over the whole.
-use Rattle.std.proofs.Common.{◌≡◌, ℕ, suc, ◌+◌, ◌-◌, ◌<◌, Bool, cond, [], ◌∷◌, Some, None, Option, ap, ◌∙◌, arith}
+use Rattle.std.proofs.Common.{◌≡◌, ℕ, suc, ◌+◌, ◌-◌, ◌<◌, Bool, cond, [], ◌∷◌, Some, None, ap, ◌∙◌, arith}
 use Rattle.arena.specs.Sets.{from, seek}
 
 pub from_step : (n i : ℕ) → i < n → from i (n - i) ≡ i ∷ from (i + 1) (n - (i + 1))

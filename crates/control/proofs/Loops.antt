@@ -1,7 +1,7 @@
 -- Loops that ask a test of one element after another and stop at the first that decides. Over a list, the answer on the whole
 -- is the answer on what is left; over the numbers below n, all before have passed. A test comes as code knows it: an answer
 -- that equals it.
-use Rattle.std.proofs.Common.{◌≡◌, ℕ, zero, suc, ◌+◌, ◌<◌, ◌≤◌, Bool, true, false, cond, ◌&&◌, ◌||◌, eqb, List, length, get_or, drop, sym, refl, ap, ◌∙◌, subst, inl, inr, zero-add, add-one, arith}
+use Rattle.std.proofs.Common.{◌≡◌, ℕ, zero, suc, ◌+◌, ◌<◌, ◌≤◌, Bool, true, false, cond, ◌&&◌, ◌||◌, List, length, get_or, drop, sym, refl, ap, ◌∙◌, subst, inl, inr, zero-add, add-one, arith}
 use Rattle.std.proofs.lemmas.List.{at_drop_more, at_drop_all}
 use Rattle.std.proofs.lemmas.Bool.{and_from, and_parts, both_ways, cases_Bool, eq-eqb, ne_eqb}
 use Rattle.arena.specs.Sets.{all, elem, from, upto, count}

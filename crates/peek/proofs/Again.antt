@@ -1,12 +1,12 @@
 -- A row that is taken and let go by the same seat leaves the sheet as it was.
-use Rattle.std.proofs.Common.{◌≡◌, ℕ, ◌<◌, Bool, true, false, not, ◌&&◌, eqb, ltb, List, length, get_or, set, sym, refl, ap, ◌∙◌, arith}
-use Rattle.std.proofs.lemmas.Bool.{and_from, lt-ltb, ltb-true, eq-eqb, eqb-true, not-true, not_from_false, not-false}
+use Rattle.std.proofs.Common.{◌≡◌, ℕ, ◌<◌, true, not, ◌&&◌, eqb, ltb, length, get_or, set, sym, refl, ap, ◌∙◌, arith}
+use Rattle.std.proofs.lemmas.Bool.{and_from, lt-ltb, ltb-true, eq-eqb, eqb-true, not-true, not-false}
 use Rattle.std.proofs.lemmas.List.{get_or-set_same, set-set, set-get_or}
 use Rattle.arena.specs.Refusals.{Outcome, accepted, refused, done, require, after, told}
 use Rattle.arena.specs.Sets.{between}
 use Rattle.arena.proofs.Basics.{require_accepted, between_parts, accepted_injective, not_refused}
 use Rattle.row.specs.Rows.{Row}
-use Rattle.sheet.specs.Sheets.{Sheet, row_on, is_out, out_to, lent, take_answer, take_after, let_go_answer, let_go_after}
+use Rattle.sheet.specs.Sheets.{Sheet, row_on, is_out, out_to, lent, take_answer, take_after, let_go_after}
 
 module _ (s : Sheet) (seat p : ℕ) (long : length s.out ≡ s.size) (row : Row) (taken : take_answer s seat p ≡ accepted row) where
   first : (between 1 16 seat ≡ true) × (require (ltb p s.size) 4 (require (not (is_out s p)) 6 (accepted (row_on s p))) ≡ accepted row)

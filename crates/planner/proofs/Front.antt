@@ -1,16 +1,16 @@
 -- A strip's fault is found within as many bytes as the longest strip has and one more: what follows is not looked at.
-use Rattle.std.proofs.Common.{◌≡◌, ℕ, zero, suc, ◌+◌, ◌-◌, ◌*◌, ◌<◌, ◌≤◌, Bool, true, false, cond, ◌&&◌, eqb, ltb, leb, List, [], ◌∷◌, ◌++◌, map, length, get_or, Some, None, Option, sym, refl, ap, ◌∙◌, ⊎_elim, arith}
+use Rattle.std.proofs.Common.{◌≡◌, ℕ, zero, suc, ◌+◌, ◌-◌, ◌<◌, ◌≤◌, Bool, true, false, cond, ◌&&◌, eqb, ltb, leb, List, [], ◌∷◌, ◌++◌, map, length, Some, None, Option, sym, refl, ap, ◌∙◌, ⊎_elim, arith}
 use Rattle.std.specs.List.{AllByRecursion as All}
 use Rattle.std.proofs.ByRecursion.{All-append}
-use Rattle.std.proofs.lemmas.Bool.{and_left, and_right, cases_lt, cond-true, le-leb, lt-leb, lt-ltb}
+use Rattle.std.proofs.lemmas.Bool.{and_right, cases_lt, cond-true, le-leb, lt-leb, lt-ltb}
 use Rattle.std.proofs.lemmas.List.{length-append, get_or_append_left}
 use Rattle.arena.specs.Bytes.{byte, number}
 use Rattle.arena.specs.Refusals.{Outcome, require_none, accepted}
 use Rattle.arena.specs.Sets.{from, upto, concat, between, least}
-use Rattle.strip.specs.Strip.{Field, stands, first_wrong, or_else, size, goals, row_at, move_at, moves_at, move_field, front_fields, record_fields, row_fields, head_fields, end_at, end_fields, fields, trailing, fault, bare, drawn, open_answer}
+use Rattle.strip.specs.Strip.{Field, first_wrong, or_else, size, goals, row_at, move_at, move_field, front_fields, record_fields, row_fields, head_fields, end_at, end_fields, fields, trailing, fault, bare, drawn}
 use Rattle.strip.specs.Parts.{rows_wrong, fault_parts}
-use Rattle.strip.specs.Faults.{Sound, sound, all_concat}
-use Rattle.planner.specs.Answer.{deciding, answer_text, program_text, RestUnread}
+use Rattle.strip.specs.Faults.{sound, all_concat}
+use Rattle.planner.specs.Answer.{deciding, answer_text, RestUnread}
 
 -- lists of equal things are equal
 same_map : {X : Type 0} (f g : ℕ → X) (i c : ℕ) → ((j : ℕ) → i ≤ j → j < i + c → f j ≡ g j) → map f (from i c) ≡ map g (from i c)

@@ -1,7 +1,7 @@
 -- What a sheet keeps over a succession of calls with solve among them. The rows are of the code's type, so those that a
 -- sheet holds have few and rising moves, and an accepted put has asked that they lead to its positions: where the sheet
 -- closes, the rows draw an arena.
-use Rattle.std.proofs.Common.{◌≡◌, ℕ, zero, suc, ◌^◌, ◌<◌, ◌≤◌, Bool, true, false, ◌&&◌, ltb, ◌⊎◌, List, [], ◌∷◌, ◌++◌, length, get_or, drop, set, replicate, None, sym, refl, ap, ◌∙◌, subst, inl, inr, ⊎_elim, arith}
+use Rattle.std.proofs.Common.{◌≡◌, ℕ, zero, suc, ◌^◌, ◌<◌, ◌≤◌, Bool, true, ltb, ◌⊎◌, List, [], ◌∷◌, ◌++◌, length, get_or, drop, set, replicate, None, sym, refl, ap, ◌∙◌, subst, inl, inr, ⊎_elim, arith}
 use Rattle.std.proofs.lemmas.Bool.{and_parts, ltb-true, eqb-false, cases_lt}
 use Rattle.arena.specs.Refusals.{Outcome, accepted, refused, Done, done, require, require_none, after, told}
 use Rattle.arena.specs.Arena.{Meaning, Lawful}
@@ -20,8 +20,8 @@ use Rattle.sheet.proofs.Successions.{Kept, kept, keeps}
 use Rattle.arena.specs.Certificate.{certificate_bytes}
 use Rattle.solver.specs.Certificate.{certificate}
 use Rattle.solver.specs.Solve.{work_numbers, solve, bytes_after, work_after}
-use Rattle.planner.specs.Solving.{solve_answered, answered_bytes, answered_work}
-use Rattle.planner.specs.Promise.{Memories, Solved, reply_of, solve_reply, Drafted, AllDrafted, Solves, SolveIsRight, RefusedLeavesMemories, SheetsKeep}
+use Rattle.planner.specs.Solving.{answered_bytes, answered_work}
+use Rattle.planner.specs.Promise.{Memories, Solved, reply_of, solve_reply, Drafted, AllDrafted, SolveIsRight, SheetsKeep}
 
 -- a row that a sheet of n positions may hold
 record Fine (n : ℕ) (r : rows.Row) : Type 0 where

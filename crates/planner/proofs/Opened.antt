@@ -1,7 +1,7 @@
 -- What it says that a strip has been opened: there is an arena, and its numbers of positions and goals are such that it can
 -- be solved.
-use Rattle.std.proofs.Common.{◌≡◌, ℕ, List, [], ◌∷◌, Some, None, Option, refl, arith}
-use Rattle.arena.specs.Refusals.{Outcome, accepted, refused, done, require_none, told}
+use Rattle.std.proofs.Common.{◌≡◌, ℕ, List, Some, None, Option, refl, arith}
+use Rattle.arena.specs.Refusals.{accepted, done, require_none, told}
 use Rattle.arena.specs.Sets.{least}
 use Rattle.strip.specs.Strip.{size, fault, bare, drawn, open_answer}
 use Rattle.strip.specs.Faults.{Sound, sound}

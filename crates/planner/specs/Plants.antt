@@ -1,6 +1,6 @@
 -- Worked plants A to H: small arenas and calls with what comes out, each by its own equations, and all in one statement.
 -- Read last; every equation is proved by computing both sides.
-use Rattle.std.specs.Prelude.{◌≡◌, ℕ, ◌+◌, List, [], ◌∷◌, ◌++◌, map, replicate, slice_index_or, slice_set}
+use Rattle.std.specs.Prelude.{◌≡◌, ℕ, List, [], ◌∷◌, ◌++◌, map, replicate, slice_index_or, slice_set}
 use Rattle.arena.specs.Refusals.{accepted, refused}
 use Rattle.arena.specs.Arena.{Meaning}
 use Rattle.arena.specs.Sets.{elem}

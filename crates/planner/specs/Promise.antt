@@ -1,10 +1,9 @@
 -- What the planner promises, whole. Read the last definition first, and then its three parts in turn. An arena is any
 -- meaning with the laws of one, and a certificate any bytes.
-use Rattle.std.specs.Prelude.{◌≡◌, ℕ, ◌<◌, ◌≤◌, true, false, List, [], ◌∷◌}
+use Rattle.std.specs.Prelude.{◌≡◌, ℕ, ◌<◌, ◌≤◌, false, List, [], ◌∷◌}
 use Rattle.arena.specs.Refusals.{Outcome, accepted, refused, told}
 use Rattle.arena.specs.Arena.{Meaning, Lawful}
 use Rattle.control.specs.Promise.{Accepted, RunsVisitAll, TrafficHolds, SidesWin}
-use Rattle.row.specs.Rows as rows
 use Rattle.row.specs.Rows.{meaning_of}
 use Rattle.row.specs.RowModel.{row_of}
 use Rattle.row.specs.declared.row.Row.{Row}

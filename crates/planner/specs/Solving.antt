@@ -1,11 +1,10 @@
 -- Solve of what is to be opened or closed first: a strip, a sheet. Read after solve and the sheet's calls.
-use Rattle.std.specs.Prelude.{ℕ, List, [], ◌∷◌, Ok, Err, Result}
+use Rattle.std.specs.Prelude.{ℕ, List, [], Ok, Err, Result}
 use Rattle.arena.specs.Refusals.{Outcome, accepted, refused}
 use Rattle.arena.specs.Arena.{Meaning}
 use Rattle.solver.specs.Refused.{refusal}
 use Rattle.solver.specs.Solve.{solve, bytes_after, work_after}
 use Rattle.strip.specs.Refusals.{open_refusal}
-use Rattle.strip.specs.Strip.{open_answer}
 use Rattle.sheet_faults.specs.Refusals.{close_refusal}
 use Rattle.sheet.specs.Sheets.{Sheet, close_answer}
 use Rattle.planner.specs.declared.solving.StripSolveFault.{StripSolveFault}

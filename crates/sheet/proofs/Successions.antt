@@ -1,6 +1,6 @@
 -- What a sheet keeps over a succession of calls: its rows are those that the answers say were last put, and the rows out are
 -- those that the answers say were lent. Each call keeps this, since an accepted one sets a single place of a list.
-use Rattle.std.proofs.Common.{◌≡◌, ℕ, ◌^◌, ◌<◌, Bool, true, false, cond, not, ◌&&◌, eqb, ltb, List, [], ◌∷◌, length, get_or, set, replicate, sym, refl, ap, ◌∙◌, subst, ⊎_elim, arith, length-set}
+use Rattle.std.proofs.Common.{◌≡◌, ℕ, ◌^◌, ◌<◌, Bool, true, false, cond, not, ◌&&◌, eqb, ltb, List, [], ◌∷◌, length, get_or, set, sym, refl, ap, ◌∙◌, subst, ⊎_elim, arith, length-set}
 use lib.ListN.{length-replicate}
 use Rattle.std.proofs.lemmas.Bool.{cases_eq, and_parts, ltb-true, ne_eqb, eq-eqb, cond-true, cond-false}
 use Rattle.std.proofs.lemmas.List.{get_or-set_same, get_or-set_other}
@@ -9,7 +9,7 @@ use Rattle.arena.specs.Sets.{between, count, upto, all}
 use Rattle.arena.proofs.Basics.{get_or_all, require_accepted, between_parts}
 use Rattle.row.specs.Rows.{Row, empty}
 use Rattle.sheet.specs.Sheets.{Sheet, new, row_on, is_out, out_to, lent, stored, take_answer, put_answer, let_go_answer}
-use Rattle.sheet.specs.Succession.{Call, take, put, let_go, rows_out, asked, Told, nothing, copied, number, replied, answer, next, sheet_after, Event, events, row_then, row_since, last_put, out_then, out_since, lent_out, Keeps, SheetsKeep}
+use Rattle.sheet.specs.Succession.{Call, take, put, let_go, rows_out, asked, Told, nothing, copied, answer, next, sheet_after, events, row_then, row_since, last_put, out_then, out_since, lent_out, Keeps, SheetsKeep}
 
 -- the sheet holds these rows, and these rows are out
 pub record Kept (n k : ℕ) (s : Sheet) (row : ℕ → Row) (out : ℕ → Bool) : Type 0 where

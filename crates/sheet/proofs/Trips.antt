@@ -1,6 +1,6 @@
 -- The round trip on sheets: what a sheet writes is read back into its rows, and a strip that is loaded is what the sheet then
 -- writes. Both come from the round trip on strips, since a strip is made of the rows below its number of positions.
-use Rattle.std.proofs.Common.{◌≡◌, ℕ, zero, suc, ◌+◌, ◌^◌, ◌<◌, ◌≤◌, List, [], ◌∷◌, ◌++◌, map, length, get_or, take, drop, None, sym, refl, ap, ◌∙◌, subst, arith}
+use Rattle.std.proofs.Common.{◌≡◌, ℕ, zero, suc, ◌+◌, ◌^◌, ◌<◌, ◌≤◌, List, [], ◌∷◌, ◌++◌, map, length, get_or, take, None, sym, refl, ap, ◌∙◌, subst, arith}
 use Rattle.std.proofs.lemmas.List.{take_at}
 use Rattle.arena.specs.Refusals.{accepted, done, after, require_none}
 use Rattle.arena.specs.Sets.{concat, from, upto}

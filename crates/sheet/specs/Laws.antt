@@ -1,5 +1,5 @@
 -- The rows of a sheet that closes draw an arena: the proof that a closed sheet carries.
-use Rattle.std.specs.Prelude.{◌≡◌, ℕ, zero, suc, ◌<◌, ◌≤◌, List, [], ◌∷◌, length, get_or}
+use Rattle.std.specs.Prelude.{ℕ, zero, suc, ◌≤◌, List, [], ◌∷◌, length}
 use Rattle.std.proofs.Common.{arith}
 use Rattle.arena.specs.Arena.{Lawful}
 use Rattle.row.specs.Rows as rows

@@ -3,7 +3,7 @@
 use Rattle.std.proofs.Common.{◌≡◌, ℕ, zero, suc, ◌+◌, ◌<◌, ◌≤◌, Bool, true, false, cond, ◌&&◌, ◌||◌, ltb, ◌⊎◌, List, Some, None, Option, sym, refl, ap, ◌∙◌, subst, inl, inr, arith}
 use Rattle.std.proofs.lemmas.Bool.{both_ways, cases_lt, cases_Bool, lt-ltb, le-ltb, and_left, or_from, cond-true, cond-false}
 use Rattle.arena.specs.Arena.{Meaning, Lawful}
-use Rattle.arena.specs.Sets.{seek, least, holds}
+use Rattle.arena.specs.Sets.{seek, least}
 use Rattle.arena.proofs.Basics.{Yes, No, Least, seek_some, least_found, cases_option}
 use Rattle.solver.specs.Attractor.{round, rank}
 use Rattle.solver.specs.Columns.{cell, code, present, numbered, by_round, drawn_in, next, Column, Room}

@@ -1,11 +1,10 @@
 -- The record of a position, cut out of a strip without a fault, is read as the row that the strip stores there.
-use Rattle.std.proofs.Common.{◌≡◌, ℕ, ◌+◌, ◌-◌, ◌*◌, ◌^◌, ◌<◌, ◌≤◌, Bool, true, not, eqb, List, length, get_or, take, drop, Some, None, sym, refl, ap, ◌∙◌, subst, arith, length-drop, pow_mono}
+use Rattle.std.proofs.Common.{◌≡◌, ℕ, ◌+◌, ◌-◌, ◌*◌, ◌^◌, ◌<◌, ◌≤◌, Bool, not, eqb, List, length, take, drop, Some, None, sym, ap, ◌∙◌, arith, length-drop, pow_mono}
 use Rattle.std.proofs.lemmas.List.{get_or-take, get_or-drop, length-take-le, ext_get_or}
 use Rattle.std.proofs.lemmas.Bool.{and_from, eq-eqb}
 use Rattle.arena.specs.Bytes.{byte, number}
 use Rattle.arena.specs.Sets.{holds}
 use Rattle.arena.proofs.Within.{within_true}
-use Rattle.row.specs.Rows.{Row}
 use Rattle.strip.specs.Strip.{size, goals, row_at, move_at, moves_at, first_wrong, record_fields, row_from, row_in, row_read}
 use Rattle.strip.specs.Faults.{RowRight, Sound, sound_record}
 use Rattle.strip.specs.Laws.{moves_count, move_is}

@@ -1,5 +1,5 @@
 -- A written strip byte by byte: the records are laid out one after another.
-use Rattle.std.proofs.Common.{◌≡◌, ℕ, zero, suc, ◌+◌, ◌*◌, ◌<◌, List, map, length, ap, ◌∙◌, arith}
+use Rattle.std.proofs.Common.{◌≡◌, ℕ, ◌+◌, ◌*◌, ◌<◌, length, ap, ◌∙◌, arith}
 use Rattle.arena.specs.Bytes.{byte}
 use Rattle.row.specs.Rows.{Row}
 use Rattle.row.specs.Records.{record_of}

@@ -5,7 +5,7 @@ use Rattle.std.specs.List.{AllByRecursion as All}
 use Rattle.std.proofs.ByRecursion.{All-append, All-get_or, All-from_get_or, All-take}
 use Rattle.std.proofs.lemmas.List.{get_or_past, ext_get_or}
 use Rattle.arena.specs.Sets.{concat, upto}
-use Rattle.arena.specs.Bytes.{two, byte, number}
+use Rattle.arena.specs.Bytes.{byte, number}
 use Rattle.row.specs.Rows.{Row}
 use Rattle.row.specs.Records.{padded, pairs, record_of}
 use Rattle.row.proofs.RecordBytes.{record_high, record_low}

@@ -1,11 +1,11 @@
 -- A strip that opens draws an arena: the proof that an opened strip carries.
-use Rattle.std.specs.Prelude.{◌≡◌, ℕ, zero, suc, ◌+◌, ◌-◌, ◌*◌, ◌<◌, ◌≤◌, Bool, true, false, not, ◌&&◌, ◌||◌, List, map, length, Some, None, Option, ◌==◌, nat_eq, slice_index, slice_index_or, refl}
-use Rattle.std.proofs.Common.{ap, sym, subst, ◌∙◌, ⊎_elim, arith}
+use Rattle.std.specs.Prelude.{◌≡◌, ℕ, zero, suc, ◌+◌, ◌-◌, ◌*◌, ◌<◌, ◌≤◌, true, false, not, ◌&&◌, List, map, length, Some, None, Option, ◌==◌, nat_eq, slice_index, slice_index_or, refl}
+use Rattle.std.proofs.Common.{ap, ◌∙◌, ⊎_elim, arith}
 use Rattle.std.proofs.lemmas.List.{get_or_past}
-use Rattle.std.proofs.lemmas.Bool.{both_ways, cases_lt, eqb-true, eqb-false, eq-eqb, and_parts, or_cases, not-true}
-use Rattle.arena.specs.Arena.{Meaning, Lawful}
+use Rattle.std.proofs.lemmas.Bool.{both_ways, cases_lt, eqb-true, eqb-false, and_parts, or_cases, not-true}
+use Rattle.arena.specs.Arena.{Lawful}
 use Rattle.arena.specs.Bytes.{byte, number}
-use Rattle.arena.specs.Sets.{from, upto, least, holds}
+use Rattle.arena.specs.Sets.{from, least, holds}
 use Rattle.arena.proofs.Basics.{least_none}
 use Rattle.strip.specs.Strip.{size, goals, row_at, move_at, moves_at, row_from, bare, drawn, fault, openable}
 use Rattle.strip.specs.Faults.{RowRight, Sound, sound}

@@ -6,7 +6,7 @@ use Rattle.std.proofs.Common.{sym, ◌∙◌}
 use native.Mathlib.Omega.{arith}
 use Rattle.arena.specs.Sets.{from, upto, concat}
 use Rattle.arena.proofs.Loops.{from_step, from_end}
-use Rattle.strip.specs.Strip.{Field, or_else, stands, first_wrong, size, goals, row_at, move_field, front_fields, record_fields, row_fields, head_fields, end_fields, fields, trailing, fault}
+use Rattle.strip.specs.Strip.{Field, or_else, stands, first_wrong, size, goals, row_at, move_field, front_fields, record_fields, row_fields, head_fields, end_fields, trailing, fault}
 
 pub nothing_first : (x y : Option ℕ) → None ≡ x → or_else x y ≡ y
 nothing_first x y e = ap (λ o. or_else o y) (sym e)

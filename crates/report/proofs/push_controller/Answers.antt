@@ -1,4 +1,4 @@
-use Rattle.std.proofs.Common.{◌≡◌, ◌++◌, string_bytes, codes, decimal, ap, append_assoc, arith}
+use Rattle.std.proofs.Common.{◌≡◌, string_bytes, codes, decimal, ap, append_assoc, arith}
 use Rattle.arena.specs.Certificate.{rank_of, goal_move_of}
 use Rattle.arena.specs.Sets.{upto, concat}
 use Rattle.report.specs.Plan.{goal_text, move_text}

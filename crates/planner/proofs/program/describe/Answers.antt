@@ -1,4 +1,4 @@
-use Rattle.std.proofs.Common.{◌≡◌, sym, ap, ◌∙◌, arith}
+use Rattle.std.proofs.Common.{sym, ap, ◌∙◌, arith}
 use Rattle.strip.specs.Strip.{size, goals, drawn}
 use Rattle.planner.specs.Answer.{answer_text, planned_text}
 use Rattle.planner.proofs.Opened.{opened, opened_sound}

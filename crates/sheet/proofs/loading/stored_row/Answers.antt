@@ -1,4 +1,4 @@
-use Rattle.std.proofs.Common.{◌≡◌, ℕ, ◌<◌, List, take, drop, Some, None, Option, sym, ap, ◌∙◌, arith}
+use Rattle.std.proofs.Common.{◌≡◌, ℕ, ◌<◌, List, take, drop, Some, None, Option, ap, ◌∙◌, arith}
 use Rattle.row.specs.Rows.{Row}
 use Rattle.row.specs.RowModel.{row_of}
 use Rattle.strip.specs.Faults.{sound}

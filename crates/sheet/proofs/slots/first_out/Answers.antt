@@ -1,6 +1,6 @@
-use Rattle.std.proofs.Common.{◌≡◌, ℕ, ◌+◌, ◌-◌, true, false, not, length, get_or, Some, None, sym, ap, ◌∙◌, arith}
+use Rattle.std.proofs.Common.{◌≡◌, ◌+◌, ◌-◌, true, false, not, length, get_or, Some, sym, ap, ◌∙◌, arith}
 use Rattle.std.proofs.lemmas.Bool.{eq-eqb, ne_eqb, cond-true, cond-false}
-use Rattle.arena.specs.Sets.{seek, least}
+use Rattle.arena.specs.Sets.{seek}
 use Rattle.arena.proofs.Loops.{seek_step, seek_end}
 use Rattle.sheet.specs.Slots.{is_lent, seats_of}
 use Rattle.sheet.proofs.slots.first_out.Goals as goal

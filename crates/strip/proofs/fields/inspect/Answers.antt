@@ -1,6 +1,6 @@
 use Rattle.std.proofs.Common.{◌≡◌, ℕ, ◌+◌, ◌*◌, ◌<◌, ◌≤◌, ltb, List, length, Some, None, Option, sym, ap, ◌∙◌, arith}
 use Rattle.std.proofs.lemmas.Bool.{lt-ltb, le-ltb, cond-true, cond-false}
-use Rattle.strip.specs.Strip.{or_else, size, first_wrong, head_fields, end_fields, end_at, trailing, fault}
+use Rattle.strip.specs.Strip.{or_else, first_wrong, head_fields, end_fields, end_at, trailing, fault}
 use Rattle.strip.specs.Parts.{nothing_first, something_first, rows_wrong, fault_parts}
 use Rattle.strip.proofs.Passing.{passed_on}
 use Rattle.strip.proofs.fields.inspect.Goals as goal

@@ -1,4 +1,4 @@
-use Rattle.std.proofs.Common.{◌≡◌, ◌+◌, ◌*◌, ◌<◌, sym, ap, ◌∙◌, arith}
+use Rattle.std.proofs.Common.{◌≡◌, ◌+◌, ◌<◌, sym, ap, ◌∙◌, arith}
 use Rattle.strip.specs.Strip.{size, goals, row_at}
 use Rattle.strip.specs.Parts.{nothing_first, something_first, record_wrong, rows_wrong, rows_step, rows_end}
 use Rattle.strip.proofs.Passing.{passed_on}

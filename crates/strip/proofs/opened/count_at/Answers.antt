@@ -1,4 +1,4 @@
-use Rattle.std.proofs.Common.{◌≡◌, ◌+◌, sym, ap, ◌∙◌}
+use Rattle.std.proofs.Common.{◌+◌, sym, ap, ◌∙◌}
 use Rattle.arena.specs.Bytes.{number}
 use Rattle.strip.specs.Laws.{moves_count}
 use Rattle.strip.specs.Strip.{row_at}

@@ -1,4 +1,4 @@
-use Rattle.std.proofs.Common.{◌≡◌, ◌+◌, ◌*◌, ◌<◌, sym, ap, ◌∙◌, arith}
+use Rattle.std.proofs.Common.{◌+◌, ◌*◌, ◌<◌, sym, ap, ◌∙◌, arith}
 use Rattle.arena.specs.Bytes.{number}
 use Rattle.strip.specs.Laws.{moves_count, move_is}
 use Rattle.strip.specs.Strip.{row_at, moves_at}

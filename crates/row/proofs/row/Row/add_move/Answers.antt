@@ -1,4 +1,3 @@
-use Rattle.std.proofs.Common.{◌≡◌}
 use Rattle.row.proofs.Moves.{added}
 use Rattle.row.specs.RowModel.{owner_number}
 use Rattle.row.proofs.row.Row.add_move.Goals as goal

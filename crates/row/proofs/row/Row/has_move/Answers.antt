@@ -1,7 +1,6 @@
-use Rattle.std.proofs.Common.{◌≡◌, ℕ, Bool, true, false, eqb, ltb, List, length, get_or, sym, ap, ◌∙◌, subst, inl, inr, arith}
+use Rattle.std.proofs.Common.{◌≡◌, ℕ, eqb, List, length, get_or, sym, ap, ◌∙◌, subst, inl, inr, arith}
 use Rattle.std.proofs.lemmas.Bool.{cases_eq, eq-eqb, ne_eqb, le-ltb}
 use Rattle.arena.specs.Sets.{elem}
-use Rattle.row.specs.RowModel.{row_of, Placed}
 use Rattle.row.proofs.Moves.{Rises, moves_rise, there, absent}
 use Rattle.row.proofs.row.Row.has_move.Goals as goal
 

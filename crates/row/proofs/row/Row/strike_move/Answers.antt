@@ -1,4 +1,4 @@
-use Rattle.std.proofs.Common.{◌≡◌, sym}
+use Rattle.std.proofs.Common.{sym}
 use Rattle.row.proofs.Moves.{strike_none, found, struck, listed}
 use Rattle.row.specs.RowModel.{owner_number}
 use Rattle.row.proofs.row.Row.strike_move.Goals as goal

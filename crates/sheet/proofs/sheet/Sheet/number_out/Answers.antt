@@ -1,4 +1,4 @@
-use Rattle.std.proofs.Common.{◌≡◌, length, vec_items, sym, ap, ◌∙◌}
+use Rattle.std.proofs.Common.{length, vec_items, sym, ap, ◌∙◌}
 use Rattle.arena.specs.Sets.{count, upto}
 use Rattle.sheet.specs.Slots.{is_lent, seats_of}
 use Rattle.sheet.proofs.Successions.{sheets_keep}

@@ -1,4 +1,4 @@
-use Rattle.std.proofs.Common.{◌≡◌, ℕ, List, map, replicate, vec_items, vec_len, sym, ap, ◌∙◌, subst, arith}
+use Rattle.std.proofs.Common.{◌≡◌, map, replicate, vec_items, vec_len, sym, ap, ◌∙◌, subst, arith}
 use Rattle.arena.specs.Sets.{upto}
 use Rattle.strip.specs.Strip.{size, goals, row_read}
 use Rattle.strip.specs.Faults.{sound}

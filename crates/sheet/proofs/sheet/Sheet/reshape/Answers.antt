@@ -1,4 +1,4 @@
-use Rattle.std.proofs.Common.{◌≡◌, ℕ, vec_len, sym, subst, arith}
+use Rattle.std.proofs.Common.{ℕ, vec_len, sym, subst, arith}
 use Rattle.sheet.specs.Slots.{Below, Marked}
 use Rattle.sheet.proofs.Keeping.{empties_below, empties_marked}
 use Rattle.sheet.proofs.sheet.Sheet.reshape.Goals as goal

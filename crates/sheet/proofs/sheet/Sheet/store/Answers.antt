@@ -1,4 +1,4 @@
-use Rattle.std.proofs.Common.{◌≡◌, ℕ, ◌<◌, length, vec_items, vec_len, sym, subst, arith}
+use Rattle.std.proofs.Common.{ℕ, ◌<◌, length, vec_items, vec_len, sym, subst, arith}
 use lib.ListN.{length-map}
 use Rattle.row.specs.RowModel.{row_of}
 use Rattle.sheet.specs.Slots.{Below, Marked, rows_of}

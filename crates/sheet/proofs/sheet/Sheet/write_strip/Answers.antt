@@ -1,4 +1,4 @@
-use Rattle.std.proofs.Common.{◌≡◌, ℕ, ◌<◌, List, ◌++◌, length, drop, vec_items, vec_len, sym, ap, ◌∙◌, arith}
+use Rattle.std.proofs.Common.{◌≡◌, ℕ, ◌<◌, List, ◌++◌, length, drop, vec_items, vec_len, sym, ap, ◌∙◌}
 use lib.ListN.{length-map}
 use Rattle.row.specs.RowModel.{row_of}
 use Rattle.strip.specs.Writing.{strip, strip_bytes}
