@@ -1,6 +1,6 @@
 -- A strip's fault is found within as many bytes as the longest strip has and one more: what follows is not looked at.
 use Rattle.std.proofs.Common.{◌≡◌, ℕ, zero, suc, ◌+◌, ◌-◌, ◌<◌, ◌≤◌, Bool, true, false, cond, ◌&&◌, eqb, ltb, leb, List, [], ◌∷◌, ◌++◌, map, length, Some, None, Option, sym, refl, ap, ◌∙◌, ⊎_elim, arith}
-use Rattle.std.specs.List.{AllByRecursion as All}
+use Rattle.std.specs.List.{AllByRecursion}
 use Rattle.std.proofs.ByRecursion.{All-append}
 use Rattle.std.proofs.lemmas.Bool.{and_right, cases_lt, cond-true, le-leb, lt-leb, lt-ltb}
 use Rattle.std.proofs.lemmas.List.{length-append, get_or_append_left}
@@ -27,7 +27,7 @@ same_concat f g i (suc c) h =
     let rest = same_concat f g (suc i) c (λ j a b. h j (omega arith) (omega arith)) in
     cc
 
-all_map : {X : Type 0} (P : X → Type 0) (f : ℕ → X) (i c : ℕ) → ((j : ℕ) → i ≤ j → j < i + c → P (f j)) → All P (map f (from i c))
+all_map : {X : Type 0} (P : X → Type 0) (f : ℕ → X) (i c : ℕ) → ((j : ℕ) → i ≤ j → j < i + c → P (f j)) → AllByRecursion P (map f (from i c))
 all_map P f i zero h = tt
 all_map P f i (suc c) h = (h i (omega arith) (omega arith), all_map P f (suc i) c (λ j a b. h j (omega arith) (omega arith)))
 
@@ -49,7 +49,7 @@ module _ (bs more : List ℕ) (long : deciding ≤ length bs) where
   abbrev Front : Field → Type 0
   Front f = f.offset + f.width ≤ deciding
 
-  same_wrong : (fs : List Field) → All Front fs → first_wrong whole fs ≡ first_wrong bs fs
+  same_wrong : (fs : List Field) → AllByRecursion Front fs → first_wrong whole fs ≡ first_wrong bs fs
   same_wrong [] h = refl
   same_wrong (f ∷ fs) h =
       let rest = same_wrong fs h.1 in
@@ -119,7 +119,7 @@ module _ (bs more : List ℕ) (long : deciding ≤ length bs) where
         ∙ ap (λ n. head_fields bs ++ (concat (row_fields whole) (upto n) ++ end_fields bs)) same_size
         ∙ ap (λ xs. head_fields bs ++ (xs ++ end_fields bs)) rows
 
-    in_front : All Front (fields bs)
+    in_front : AllByRecursion Front (fields bs)
     in_front = (
       omega arith,
       (
@@ -154,7 +154,7 @@ module _ (bs more : List ℕ) (long : deciding ≤ length bs) where
         ∙ ap (or_else (first_wrong bs (fields bs))) same_trailing
 
   -- a head with more positions is wrong, in the mark or in that number
-  head_in_front : All Front (head_fields bs)
+  head_in_front : AllByRecursion Front (head_fields bs)
   head_in_front = (omega arith, (omega arith, (omega arith, tt)))
 
   too_many : 512 < size bs → (place : ℕ) × (first_wrong bs (head_fields bs) ≡ Some place)

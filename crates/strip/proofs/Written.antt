@@ -1,7 +1,7 @@
 -- What is written is read back: the bytes of a strip of good rows are bytes, every field is right, and the rows that are
 -- read are the rows that were written.
 use Rattle.std.proofs.Common.{◌≡◌, ℕ, zero, suc, ◌+◌, ◌-◌, ◌*◌, ◌/◌, ◌%◌, ◌^◌, ◌<◌, ◌≤◌, List, [], ◌∷◌, ◌++◌, length, get_or, replicate, sym, refl, ◌∙◌, subst, arith, pow_mono}
-use Rattle.std.specs.List.{AllByRecursion as All}
+use Rattle.std.specs.List.{AllByRecursion}
 use Rattle.std.proofs.ByRecursion.{All-append, All-get_or, All-from_get_or, All-take}
 use Rattle.std.proofs.lemmas.List.{get_or_past, ext_get_or}
 use Rattle.arena.specs.Sets.{concat, upto}
@@ -83,23 +83,23 @@ module _ (n k : ℕ) (row : ℕ → Row) where
 abbrev Byte : ℕ → Type 0
 Byte x = x < 256
 
-pairs_bytes : (xs : List ℕ) → All (λ x. x < 65536) xs → All Byte (pairs xs)
+pairs_bytes : (xs : List ℕ) → AllByRecursion (λ x. x < 65536) xs → AllByRecursion Byte (pairs xs)
 pairs_bytes [] h = tt
 pairs_bytes (x ∷ xs) h = let small : x < 65536 = h.0 in (omega arith, (omega arith, pairs_bytes xs h.1))
 
-zeros_small : (n : ℕ) → All (λ x. x < 65536) (replicate n 0)
+zeros_small : (n : ℕ) → AllByRecursion (λ x. x < 65536) (replicate n 0)
 zeros_small zero = tt
 zeros_small (suc n) = (omega arith, zeros_small n)
 
-row_byte : (n k : ℕ) (r : Row) → n ≤ 512 → k ≤ 8 → Good n k r → All Byte (record_of r)
+row_byte : (n k : ℕ) (r : Row) → n ≤ 512 → k ≤ 8 → Good n k r → AllByRecursion Byte (record_of r)
 row_byte n k r n₁ k₁ good =
-    let moves-small : All (λ x. x < 65536) r.moves = All-from_get_or (λ x. x < 65536) r.moves 0 (λ i l. omega (arith, good.below i l)) in
-    let padded-small : All (λ x. x < 65536) (padded r.moves) =
+    let moves-small : AllByRecursion (λ x. x < 65536) r.moves = All-from_get_or (λ x. x < 65536) r.moves 0 (λ i l. omega (arith, good.below i l)) in
+    let padded-small : AllByRecursion (λ x. x < 65536) (padded r.moves) =
     All-take (λ x. x < 65536) 16 (r.moves ++ replicate 16 0) (All-append (λ x. x < 65536) r.moves (replicate 16 0) moves-small (zeros_small 16)) in
     let pow : 2 ^ k ≤ 2 ^ 8 = pow_mono k₁ in
     (omega arith, (omega arith, (omega (arith, good.owned), (omega (arith, good.goals), (omega (arith, good.few), (omega arith, pairs_bytes (padded r.moves) padded-small))))))
 
-all_bytes : (n k : ℕ) (row : ℕ → Row) → n ≤ 512 → k ≤ 8 → ((p : ℕ) → p < n → Good n k (row p)) → All Byte (strip n k row)
+all_bytes : (n k : ℕ) (row : ℕ → Row) → n ≤ 512 → k ≤ 8 → ((p : ℕ) → p < n → Good n k (row p)) → AllByRecursion Byte (strip n k row)
 all_bytes n k row n₁ k₁ good = (
   omega arith,
   (

@@ -3,7 +3,7 @@
 -- definitions since an opened strip carries the laws of an arena as a proof.
 use Rattle.std.specs.Prelude.{◌≡◌, ℕ, zero, suc, ◌+◌, ◌-◌, ◌*◌, ◌^◌, ◌<◌, ◌≤◌, Bool, true, false, cond, ◌&&◌, ◌||◌, ltb, List, [], ◌∷◌, ◌++◌, map, length, Some, None, Option, ◌==◌, nat_eq, nat_le, nat_lt, refl}
 use Rattle.std.proofs.Common.{sym, ◌∙◌, ap, subst, ⊎_elim, arith}
-use Rattle.std.specs.List.{AllByRecursion as All}
+use Rattle.std.specs.List.{AllByRecursion}
 use Rattle.std.proofs.ByRecursion.{All-append}
 use Rattle.std.proofs.lemmas.Bool.{cases_eq, cases_lt, and_parts, and_from, or_cases, or_left, or_right, eqb-true, eq-eqb, ltb-true, lt-ltb, le-ltb, leb-true, le-leb, cond-true, cond-false}
 use Rattle.arena.specs.Sets.{concat, from, upto}
@@ -12,28 +12,28 @@ use Rattle.arena.proofs.Basics.{between_parts}
 use Rattle.strip.specs.Strip.{Field, or_else, stands, first_wrong, size, goals, row_at, move_at, moves_at, move_right, move_field, record_fields, row_fields, end_at, end_fields, fields, trailing, fault}
 
 -- facts of all elements of lists put together
-all_split : {X : Type 0} (P : X → Type 0) (xs ys : List X) → All P (xs ++ ys) → All P xs × All P ys
+all_split : {X : Type 0} (P : X → Type 0) (xs ys : List X) → AllByRecursion P (xs ++ ys) → AllByRecursion P xs × AllByRecursion P ys
 all_split P [] ys h = (tt, h)
-all_split P (x ∷ xs) ys h = let r : All P xs × All P ys = all_split P xs ys h.1 in ((h.0, r.0), r.1)
+all_split P (x ∷ xs) ys h = let r : AllByRecursion P xs × AllByRecursion P ys = all_split P xs ys h.1 in ((h.0, r.0), r.1)
 
-pub all_concat : {X : Type 0} (P : X → Type 0) (f : ℕ → List X) (i c : ℕ) → ((p : ℕ) → i ≤ p → p < i + c → All P (f p)) → All P (concat f (from i c))
+pub all_concat : {X : Type 0} (P : X → Type 0) (f : ℕ → List X) (i c : ℕ) → ((p : ℕ) → i ≤ p → p < i + c → AllByRecursion P (f p)) → AllByRecursion P (concat f (from i c))
 all_concat P f i zero h = tt
 all_concat P f i (suc c) h = All-append P (f i) (concat f (from (suc i) c)) (h i (omega arith) (omega arith)) (all_concat P f (suc i) c (λ p a b. h p (omega arith) (omega arith)))
 
-all_concat_at : {X : Type 0} (P : X → Type 0) (f : ℕ → List X) (i c : ℕ) → All P (concat f (from i c)) → (p : ℕ) → i ≤ p → p < i + c → All P (f p)
+all_concat_at : {X : Type 0} (P : X → Type 0) (f : ℕ → List X) (i c : ℕ) → AllByRecursion P (concat f (from i c)) → (p : ℕ) → i ≤ p → p < i + c → AllByRecursion P (f p)
 all_concat_at P f i zero h p a b = absurd (omega arith)
 all_concat_at P f i (suc c) h p a b =
-    let r : All P (f i) × All P (concat f (from (suc i) c)) = all_split P (f i) (concat f (from (suc i) c)) h in
+    let r : AllByRecursion P (f i) × AllByRecursion P (concat f (from (suc i) c)) = all_split P (f i) (concat f (from (suc i) c)) h in
     ⊎_elim
-    (λ (e : i ≡ p). subst (λ (z : ℕ). All P (f z)) e r.0)
+    (λ (e : i ≡ p). subst (λ (z : ℕ). AllByRecursion P (f z)) e r.0)
     (λ (ne : i ≡ p → ⊥). all_concat_at P f (suc i) c r.1 p (omega arith) (omega arith))
     (cases_eq i p)
 
-all_map_from : {X : Type 0} (P : X → Type 0) (f : ℕ → X) (i c : ℕ) → ((p : ℕ) → i ≤ p → p < i + c → P (f p)) → All P (map f (from i c))
+all_map_from : {X : Type 0} (P : X → Type 0) (f : ℕ → X) (i c : ℕ) → ((p : ℕ) → i ≤ p → p < i + c → P (f p)) → AllByRecursion P (map f (from i c))
 all_map_from P f i zero h = tt
 all_map_from P f i (suc c) h = (h i (omega arith) (omega arith), all_map_from P f (suc i) c (λ p a b. h p (omega arith) (omega arith)))
 
-all_map_from_at : {X : Type 0} (P : X → Type 0) (f : ℕ → X) (i c : ℕ) → All P (map f (from i c)) → (p : ℕ) → i ≤ p → p < i + c → P (f p)
+all_map_from_at : {X : Type 0} (P : X → Type 0) (f : ℕ → X) (i c : ℕ) → AllByRecursion P (map f (from i c)) → (p : ℕ) → i ≤ p → p < i + c → P (f p)
 all_map_from_at P f i zero h p a b = absurd (omega arith)
 all_map_from_at P f i (suc c) h p a b =
     ⊎_elim
@@ -46,18 +46,18 @@ abbrev pub Right : List ℕ → Field → Type 0
 Right bs f = (f.offset + f.width ≤ length bs) × (f.right ≡ true)
 
 module _ (bs : List ℕ) where
-  none_right : (fs : List Field) → first_wrong bs fs ≡ None → All (Right bs) fs
+  none_right : (fs : List Field) → first_wrong bs fs ≡ None → AllByRecursion (Right bs) fs
   none_right [] e = tt
   none_right (f ∷ fs) e = none_step f fs (stands bs f) refl e (none_right fs)
     where
       none_step : (f : Field) (fs : List Field) (b : Bool) → stands bs f ≡ b → cond b (first_wrong bs fs) (Some f.offset) ≡ None
-          → (first_wrong bs fs ≡ None → All (Right bs) fs) → All (Right bs) (f ∷ fs)
+          → (first_wrong bs fs ≡ None → AllByRecursion (Right bs) fs) → AllByRecursion (Right bs) (f ∷ fs)
       none_step f fs true q e r =
           let a : (nat_le (f.offset + f.width) (length bs) ≡ true) × (f.right ≡ true) = and_parts (nat_le (f.offset + f.width) (length bs)) f.right q in
           ((leb-true (f.offset + f.width) (length bs) a.0, a.1), r e)
       none_step f fs false q e r = let z : ◌≡◌ {A = ℕ} 0 1 = cc in absurd (omega arith)
 
-  right_none : (fs : List Field) → All (Right bs) fs → first_wrong bs fs ≡ None
+  right_none : (fs : List Field) → AllByRecursion (Right bs) fs → first_wrong bs fs ≡ None
   right_none [] h = refl
   right_none (f ∷ fs) h =
       cond-true (stands bs f) (first_wrong bs fs) (Some f.offset)
@@ -145,7 +145,7 @@ module _ (bs : List ℕ) (n k o : ℕ) where
       cond-false (nat_lt j (moves_at bs o)) (used j) (unused j) (le-ltb j (moves_at bs o) l) ∙ eq-eqb (number bs (move_at o j)) 0 (h l))
       (cases_lt j (moves_at bs o))
 
-  row_right : All (Right bs) (record_fields bs n k o) → RowRight bs n k o
+  row_right : AllByRecursion (Right bs) (record_fields bs n k o) → RowRight bs n k o
   row_right h =
       let m : ((byte bs o == 0x47) ≡ true) × ((byte bs (o + 1) == 0x50) ≡ true) = and_parts (byte bs o == 0x47) (byte bs (o + 1) == 0x50) h.0.1 in
       let each : (j : ℕ) → j < 16 → move_right bs n o j ≡ true =
@@ -164,7 +164,7 @@ module _ (bs : List ℕ) (n k o : ℕ) where
   pub record_right : first_wrong bs (record_fields bs n k o) ≡ None → RowRight bs n k o
   record_right e = row_right (none_right bs (record_fields bs n k o) e)
 
-  right_row : o + 38 ≤ length bs → RowRight bs n k o → All (Right bs) (record_fields bs n k o)
+  right_row : o + 38 ≤ length bs → RowRight bs n k o → AllByRecursion (Right bs) (record_fields bs n k o)
   right_row room h = (
     (omega arith, and_from (byte bs o == 0x47) (byte bs (o + 1) == 0x50) (eq-eqb (byte bs o) 0x47 h.mark_0) (eq-eqb (byte bs (o + 1)) 0x50 h.mark_1)),
     (
@@ -193,8 +193,8 @@ module _ (bs : List ℕ) where
   pub sound : fault bs ≡ None → Sound bs
   sound e =
       let parts : (first_wrong bs (fields bs) ≡ None) × (trailing bs ≡ None) = none_of_two (first_wrong bs (fields bs)) (trailing bs) e in
-      let h : All (Right bs) (fields bs) = none_right bs (fields bs) parts.0 in
-      let s : All (Right bs) (concat (row_fields bs) (upto (size bs))) × All (Right bs) (end_fields bs) =
+      let h : AllByRecursion (Right bs) (fields bs) = none_right bs (fields bs) parts.0 in
+      let s : AllByRecursion (Right bs) (concat (row_fields bs) (upto (size bs))) × AllByRecursion (Right bs) (end_fields bs) =
       all_split (Right bs) (concat (row_fields bs) (upto (size bs))) (end_fields bs) h.1.1.1 in
       let m : ((byte bs 0 == 0x47) ≡ true) × ((byte bs 1 == 0x48) ≡ true) = and_parts (byte bs 0 == 0x47) (byte bs 1 == 0x48) h.0.1 in
       let n = between_parts 1 512 (size bs) h.1.0.1 in
@@ -217,7 +217,7 @@ module _ (bs : List ℕ) where
         again = eqb-true (number bs (end_at bs + 2)) (size bs) s.1.1.0.1;
       }
 
-  all_right : Sound bs → All (Right bs) (fields bs)
+  all_right : Sound bs → AllByRecursion (Right bs) (fields bs)
   all_right h =
       let long : length bs ≡ 6 + 38 * size bs + 4 = h.long in (
         (omega (arith, long), and_from (byte bs 0 == 0x47) (byte bs 1 == 0x48) (eq-eqb (byte bs 0) 0x47 h.mark_0) (eq-eqb (byte bs 1) 0x48 h.mark_1)),
