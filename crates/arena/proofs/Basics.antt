@@ -2,6 +2,8 @@
 -- test at its first element split in two; a law of the numbers below n is one of a list from any number on.
 use Rattle.std.proofs.Common.{◌≡◌, ℕ, zero, suc, ◌+◌, ◌<◌, ◌≤◌, Bool, true, false, cond, not, ◌&&◌, ◌||◌, eqb, ◌⊎◌, List, [], ◌∷◌, length, get_or, replicate, Some, None, Option, sym, refl, ap, ◌∙◌, subst, inl, inr, arith}
 use lib.ListN.{length-replicate}
+use Rattle.std.specs.List.{count_by}
+use Rattle.std.proofs.lemmas.List.Recursion.{is_count_by}
 use Rattle.std.proofs.lemmas.List.{get_or-replicate, get_or_past}
 use Rattle.std.proofs.lemmas.Bool.{both_ways, eqb-true, eqb-false, eq-eqb, leb-true, le-leb, cases_Bool, cases_eq, cases_lt, and_parts, and_from, or_cases, or_left, or_right}
 use Rattle.arena.specs.Refusals.{Outcome, accepted, refused, require, require_none}
@@ -109,14 +111,14 @@ in_from : (i c x : ℕ) → i ≤ x → x < i + c → In x (from i c)
 in_from i zero x h k = absurd (omega arith)
 in_from i (suc c) x h k =
     elim (cases_Bool (eqb i x)) [
-      | inl e ↦ or_left (eqb i x) (elem x (from (suc i) c)) e
-      | inr e ↦ let n = eqb-false i x e in or_right (eqb i x) (elem x (from (suc i) c)) (in_from (suc i) c x (omega arith) (omega arith))
+      | inl e ↦ or_left (eqb i x) (elem x (from (i + 1) c)) e
+      | inr e ↦ let n = eqb-false i x e in or_right (eqb i x) (elem x (from (i + 1) c)) (in_from (i + 1) c x (omega arith) (omega arith))
     ]
 
 from_in : (i c x : ℕ) → In x (from i c) → (i ≤ x) × (x < i + c)
 from_in i zero x h = absurd (both_ways false refl h)
 from_in i (suc c) x h =
-    elim (in_cases x i (from (suc i) c) h) [ inl e ↦ (omega arith, omega arith) | inr e ↦ let r = from_in (suc i) c x e in (omega arith, omega arith) ]
+    elim (in_cases x i (from (i + 1) c) h) [ inl e ↦ (omega arith, omega arith) | inr e ↦ let r = from_in (i + 1) c x e in (omega arith, omega arith) ]
 
 pub in_upto : (n x : ℕ) → x < n → In x (upto n)
 in_upto n x h = in_from 0 n x (omega arith) (omega arith)
@@ -129,7 +131,7 @@ all_upto f n h x l = all_true f (upto n) h x (in_upto n x l)
 
 pub length_from : (i c : ℕ) → length (from i c) ≡ c
 length_from i zero = refl
-length_from i (suc c) = ap suc (length_from (suc i) c)
+length_from i (suc c) = ap suc (length_from (i + 1) c)
 
 -- the least that passes
 pub record Least (f : ℕ → Bool) (i c j : ℕ) : Type 0 where
@@ -140,14 +142,14 @@ pub record Least (f : ℕ → Bool) (i c j : ℕ) : Type 0 where
 
 pub seek_some : (f : ℕ → Bool) (i c j : ℕ) → seek f i c ≡ Some j → Least f i c j
 seek_some f i zero j h = absurd (let z : ◌≡◌ {A = ℕ} 0 1 = cc in omega arith)
-seek_some f i (suc c) j h = go (f i) refl h (seek_some f (suc i) c j)
+seek_some f i (suc c) j h = go (f i) refl h (seek_some f (i + 1) c j)
   where
-    go : (b : Bool) → f i ≡ b → cond b (Some i) (seek f (suc i) c) ≡ Some j → (seek f (suc i) c ≡ Some j → Least f (suc i) c j) → Least f i (suc c) j
+    go : (b : Bool) → f i ≡ b → cond b (Some i) (seek f (i + 1) c) ≡ Some j → (seek f (i + 1) c ≡ Some j → Least f (i + 1) c j) → Least f i (suc c) j
     go true e q ih =
         let same : i ≡ j = cc in
         record { above = omega arith; below = omega arith; here = ap f (sym same) ∙ e; sooner = λ k a b. absurd (omega arith) }
     go false e q ih =
-        let r : Least f (suc i) c j = ih q in
+        let r : Least f (i + 1) c j = ih q in
         record {
           above = omega (arith, r.above);
           below = omega (arith, r.below);
@@ -157,9 +159,9 @@ seek_some f i (suc c) j h = go (f i) refl h (seek_some f (suc i) c j)
 
 seek_none : (f : ℕ → Bool) (i c : ℕ) → seek f i c ≡ None → (k : ℕ) → i ≤ k → k < i + c → No f k
 seek_none f i zero h k a b = absurd (omega arith)
-seek_none f i (suc c) h k a b = go (f i) refl h (λ q ne. seek_none f (suc i) c q k (omega arith) (omega arith))
+seek_none f i (suc c) h k a b = go (f i) refl h (λ q ne. seek_none f (i + 1) c q k (omega arith) (omega arith))
   where
-    go : (b : Bool) → f i ≡ b → cond b (Some i) (seek f (suc i) c) ≡ None → (seek f (suc i) c ≡ None → (i ≡ k → ⊥) → No f k) → No f k
+    go : (b : Bool) → f i ≡ b → cond b (Some i) (seek f (i + 1) c) ≡ None → (seek f (i + 1) c ≡ None → (i ≡ k → ⊥) → No f k) → No f k
     go true e q ih = let z : ◌≡◌ {A = ℕ} 0 1 = cc in absurd (omega arith)
     go false e q ih = elim (cases_eq i k) [ inl z ↦ ap f (sym z) ∙ e | inr z ↦ ih q z ]
 
@@ -206,7 +208,7 @@ count_upto_full f n h = all_upto f n (count_full f (upto n) (omega (arith, lengt
 
 pub count_every : (i n : ℕ) → count (λ x. true) (from i n) ≡ n
 count_every i zero = refl
-count_every i (suc n) = ap suc (count_every (suc i) n)
+count_every i (suc n) = ap suc (count_every (i + 1) n)
 
 pub count_same : (f g : ℕ → Bool) (xs : List ℕ) → ((x : ℕ) → In x xs → f x ≡ g x) → count f xs ≡ count g xs
 count_same f g [] h = refl
@@ -267,3 +269,11 @@ pub sized_passes : {A : Type 0} (m : Meaning) (next : Outcome A) → 0 < m.size 
 sized_passes m next a b c d =
     require_true (between 1 4096 m.size) 1 (require (between 1 8 m.goals) 2 next) (and_from _ _ (le-leb 1 m.size a) (le-leb m.size 4096 b))
     ∙ require_true (between 1 8 m.goals) 2 next (and_from _ _ (le-leb 1 m.goals c) (le-leb m.goals 8 d))
+
+-- the library's count
+pub count_is : (f : ℕ → Bool) (xs : List ℕ) → count f xs ≡ count_by f xs
+count_is f xs = is_count_by (count f) f refl (λ x xs. step (f x) (count f xs)) xs
+  where
+    step : (b : Bool) (n : ℕ) → cond b (suc n) n ≡ cond b (1 + n) n
+    step true n = omega arith
+    step false n = refl

@@ -1,7 +1,7 @@
 -- What an answer of the arena says: there is one exactly where the question is inside the ranges, and it is the meaning's.
-use Rattle.std.proofs.Common.{◌≡◌, ℕ, ◌<◌, Bool, true, false, ◌&&◌, ltb, length, get_or, Some, None, refl, ap, arith}
-use Rattle.std.proofs.lemmas.Bool.{and_parts, ltb-true}
-use Rattle.arena.specs.Arena.{Meaning, within, count_answer, move_answer}
+use Rattle.std.proofs.Common.{◌≡◌, ℕ, ◌<◌, Bool, true, false, cond, ◌&&◌, ltb, [], length, get_or, Some, None, refl, ap, arith}
+use Rattle.std.proofs.lemmas.Bool.{and_parts, ltb-true, lt-ltb}
+use Rattle.arena.specs.Arena.{Meaning, within, count_answer, move_answer, moves_answer}
 
 pub within_true : {A : Type 0} (b : Bool) (x : A) → b ≡ true → within b x ≡ Some x
 within_true b x e = ap (λ t. within t x) e
@@ -26,3 +26,7 @@ pub move_answered : (m : Meaning) (p j x : ℕ) → Some x ≡ move_answer m p j
 move_answered m p j x e =
     let r = within_some (ltb p m.size && ltb j (length (m.moves p))) (get_or (m.moves p) j 0) x e in
     (ltb-true j (length (m.moves p)) (and_parts (ltb p m.size) (ltb j (length (m.moves p))) r.0).1, r.1)
+
+-- the moves of a position of the arena
+pub moves_inside : (m : Meaning) (p : ℕ) → p < m.size → moves_answer m p ≡ m.moves p
+moves_inside m p h = ap (λ b. cond b (m.moves p) []) (lt-ltb p m.size h)

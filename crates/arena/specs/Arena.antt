@@ -1,6 +1,6 @@
 -- An arena by its meaning, the laws of one, and what its six questions answer. Read after the sets; the plays on an arena
 -- come next.
-use Rattle.std.specs.Prelude.{ℕ, ◌<◌, Bool, true, false, ◌&&◌, List, length, Some, None, Option, nat_lt, slice_index}
+use Rattle.std.specs.Prelude.{ℕ, ◌<◌, Bool, true, false, cond, ◌&&◌, List, [], length, Some, None, Option, nat_lt, slice_index}
 use Rattle.arena.specs.Refusals.{Outcome, require}
 use Rattle.arena.specs.Sets.{between}
 
@@ -41,6 +41,10 @@ module _ (m : Meaning) where
   -- the j-th move of p
   abbrev pub move_answer : ℕ → ℕ → Option ℕ
   move_answer p j = within (nat_lt p m.size && nat_lt j (length (m.moves p))) (slice_index (m.moves p) j)
+
+-- the moves of p; none where there is no such position
+abbrev pub moves_answer : Meaning → ℕ → List ℕ
+moves_answer m p = cond (nat_lt p m.size) (m.moves p) []
 
 -- what solve, check and start ask of an arena before all else: 1 to 4,096 positions, 1 to 8 goals
 abbrev pub sized : {A : Type 0} → Meaning → Outcome A → Outcome A

@@ -1,5 +1,5 @@
 -- Bytes, and numbers of two bytes with the high byte first. Strips and certificates are laid out in them.
-use Rattle.std.specs.Prelude.{ℕ, ◌+◌, ◌*◌, ◌/◌, ◌%◌, List, [], ◌∷◌, slice_index}
+use Rattle.std.specs.Prelude.{ℕ, ◌+◌, ◌*◌, ◌/◌, ◌%◌, Bool, ◌&&◌, List, [], ◌∷◌, ◌==◌, slice_index}
 
 -- a number in two bytes
 abbrev pub two : ℕ → List ℕ
@@ -12,3 +12,7 @@ byte bs i = slice_index bs i
 -- the two-byte number at a place
 abbrev pub number : List ℕ → ℕ → ℕ
 number bs i = 256 * byte bs i + byte bs (i + 1)
+
+-- the two bytes of a mark stand at a place
+abbrev pub marked_by : List ℕ → ℕ → List ℕ → Bool
+marked_by bs i mark = byte bs i == slice_index mark 0 && byte bs (i + 1) == slice_index mark 1

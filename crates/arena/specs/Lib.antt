@@ -1,6 +1,9 @@
 pub mod Refusals
+pub mod Owners
+pub mod Told
 pub mod Sets
 pub mod Arena
+pub mod Sizes
 pub mod Play
 pub mod Bytes
 pub mod Certificate

@@ -1,4 +1,5 @@
-ghost use Rattle.std.specs.Prelude.{◌≡◌, ℕ, ◌^◌, ◌<◌};
+ghost use Rattle.std.specs.Prelude.{◌≡◌, ℕ, ◌+◌, ◌^◌, ◌<◌};
+ghost use Rattle.arena.specs.Bytes.{byte, number};
 ghost use Rattle.arena.specs.Certificate.{
   approach_of,
   certificate_bytes,
@@ -29,51 +30,76 @@ pub fn record_start<A: Arena>(arena: &A, p: u16) -> usize
     6 + p as usize * (10 + 4 * arena.goals() as usize)
 }
 
-/// The side that position `p` is given to.
-pub fn side_of<A: Arena>(arena: &A, bytes: &[u8], p: u16) -> u8
-    ensures { result ≡ side_of (A.meaning arena.now) bytes.now p }
-{
-    byte_at(bytes, record_start(arena, p) + 2)
+/// Bytes that are read as a certificate of an arena. Any bytes can be: whether they are one is for check to say.
+#[derive(Clone, Copy)]
+pub struct Certificate<'a, A> {
+    pub arena: &'a A,
+    pub bytes: &'a [u8],
 }
 
-/// The goal that the traffic keeps from being visited for ever.
-pub fn goal_of<A: Arena>(arena: &A, bytes: &[u8], p: u16) -> u8
-    ensures { result ≡ goal_of (A.meaning arena.now) bytes.now p }
-{
-    byte_at(bytes, record_start(arena, p) + 3)
-}
+impl<A: Arena> Certificate<'_, A> {
+    /// The byte at an offset in the record of position `p`.
+    fn byte(&self, p: u16, offset: usize) -> u8
+        requires { offset < 2 ^ 40 }
+        ensures { result ≡ byte self.now.bytes.now (record_start (A.meaning self.now.arena.now) p + offset) }
+    {
+        byte_at(self.bytes, record_start(self.arena, p) + offset)
+    }
 
-/// The stage that gave position `p` to the traffic.
-pub fn stage_of<A: Arena>(arena: &A, bytes: &[u8], p: u16) -> u16
-    ensures { result ≡ stage_of (A.meaning arena.now) bytes.now p }
-{
-    number_at(bytes, record_start(arena, p) + 4)
-}
+    /// The two-byte number at an offset in the record of position `p`.
+    fn number(&self, p: u16, offset: usize) -> u16
+        requires { offset < 2 ^ 40 }
+        ensures { result ≡ number self.now.bytes.now (record_start (A.meaning self.now.arena.now) p + offset) }
+    {
+        number_at(self.bytes, record_start(self.arena, p) + offset)
+    }
 
-/// The approach: how near the core is.
-pub fn approach_of<A: Arena>(arena: &A, bytes: &[u8], p: u16) -> u16
-    ensures { result ≡ approach_of (A.meaning arena.now) bytes.now p }
-{
-    number_at(bytes, record_start(arena, p) + 6)
-}
+    /// The side that position `p` is given to.
+    pub fn side_of(&self, p: u16) -> u8
+        ensures { result ≡ side_of (A.meaning self.now.arena.now) self.now.bytes.now p }
+    {
+        self.byte(p, 2)
+    }
 
-/// The traffic's move.
-pub fn move_of<A: Arena>(arena: &A, bytes: &[u8], p: u16) -> u16
-    ensures { result ≡ move_of (A.meaning arena.now) bytes.now p }
-{
-    number_at(bytes, record_start(arena, p) + 8)
-}
+    /// The goal that the traffic keeps from being visited for ever.
+    pub fn goal_of(&self, p: u16) -> u8
+        ensures { result ≡ goal_of (A.meaning self.now.arena.now) self.now.bytes.now p }
+    {
+        self.byte(p, 3)
+    }
 
-/// The rank for goal `g`: how near the goal is.
-pub fn rank_of<A: Arena>(arena: &A, bytes: &[u8], g: u16, p: u16) -> u16
-    ensures { result ≡ rank_of (A.meaning arena.now) bytes.now g p }
-{
-    number_at(bytes, record_start(arena, p) + (10 + 4 * g as usize))
-}
+    /// The stage that gave position `p` to the traffic.
+    pub fn stage_of(&self, p: u16) -> u16
+        ensures { result ≡ stage_of (A.meaning self.now.arena.now) self.now.bytes.now p }
+    {
+        self.number(p, 4)
+    }
 
-/// The controller's move for goal `g`.
-pub fn goal_move_of<A: Arena>(arena: &A, bytes: &[u8], g: u16, p: u16) -> u16
-    ensures { result ≡ goal_move_of (A.meaning arena.now) bytes.now g p }
-{
-    number_at(bytes, record_start(arena, p) + (12 + 4 * g as usize))
+    /// The approach: how near the core is.
+    pub fn approach_of(&self, p: u16) -> u16
+        ensures { result ≡ approach_of (A.meaning self.now.arena.now) self.now.bytes.now p }
+    {
+        self.number(p, 6)
+    }
+
+    /// The traffic's move.
+    pub fn move_of(&self, p: u16) -> u16
+        ensures { result ≡ move_of (A.meaning self.now.arena.now) self.now.bytes.now p }
+    {
+        self.number(p, 8)
+    }
+
+    /// The rank for goal `g`: how near the goal is.
+    pub fn rank_of(&self, g: u16, p: u16) -> u16
+        ensures { result ≡ rank_of (A.meaning self.now.arena.now) self.now.bytes.now g p }
+    {
+        self.number(p, 10 + 4 * g as usize)
+    }
+
+    /// The controller's move for goal `g`.
+    pub fn goal_move_of(&self, g: u16, p: u16) -> u16
+        ensures { result ≡ goal_move_of (A.meaning self.now.arena.now) self.now.bytes.now g p }
+    {
+        self.number(p, 12 + 4 * g as usize)
+    }
 }

@@ -13,12 +13,17 @@ ghost use Rattle.arena.specs.Play.{StrategiesAgree};
 
 mod bytes;
 mod certificate;
+mod moves;
+mod owner;
+mod refusal;
+mod sizes;
 
-pub use bytes::{byte_at, number_at};
-pub use certificate::{
-    approach_of, certificate_bytes, goal_move_of, goal_of, move_of, rank_of, record_start, side_of,
-    stage_of,
-};
+pub use bytes::{byte_at, is_marked_by, number_at};
+pub use certificate::{Certificate, certificate_bytes, record_start};
+pub use moves::{Moves, moves_of};
+pub use owner::{NoOwner, Owner};
+pub use refusal::{Named, Refusal};
+pub use sizes::{SizeFault, sized};
 
 /// An arena: positions that belong to the controller (0) or the traffic (1), moves between them, and goals that positions
 /// are marked for. All count from 0, and a move is named by the position that it leads to.
@@ -56,9 +61,7 @@ pub trait Arena {
 }
 
 /// The law that ties the two usual readings of a winning strategy: to win every play that obeys it is to win against
-/// every strategy of the opponent. The contract is the law; the answer says nothing.
-pub fn strategies_agree() -> u8
+/// every strategy of the opponent. The contract is the law.
+pub fn strategies_agree()
     ensures { StrategiesAgree }
-{
-    0
-}
+{}

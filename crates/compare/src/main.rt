@@ -1,17 +1,19 @@
 #![tactic(auto)]
 
-use anyhow::anyhow;
-use arena::{certificate_bytes, side_of};
+use anyhow::bail;
+use arena::{Certificate, certificate_bytes};
 use control::check;
 use fixpoint::winning;
-use plants::{Plant, draw, has, put_strip};
+use plants::{Plant, draw, has};
 use random::Random;
 use solver::solve;
 use strip::{OpenedStrip, open};
+use strips::strip_of;
 
 mod fixpoint;
 mod plants;
 mod random;
+mod strips;
 
 /// How many plants are drawn.
 const PLANTS: u16 = 3000;
@@ -19,94 +21,89 @@ const PLANTS: u16 = 3000;
 /// As many numbers of work memory as twelve positions and three goals take.
 const NUMBERS: usize = 12 * (3 + 6);
 
-/// What was counted so far.
-#[derive(Clone, Copy)]
-struct Counts {
-    positions: u64,
-    controllers: u64,
-    traffics: u64,
-    several_stages: u64,
-    differences: u64,
-    refused: u64,
+/// What is found of a plant, or at one of its positions.
+#[derive(Clone, Copy, Debug, PartialEq, Eq)]
+enum Finding {
+    /// A position that the certificate gives to this side.
+    Side(u8),
+    /// A plant that took several stages.
+    SeveralStages,
+    /// Solve says otherwise than the other algorithm, or check otherwise than solve.
+    Difference,
+    /// A certificate that check refuses.
+    Refused,
 }
 
-// One more where the test holds.
-fn tally(count: &mut u64, test: bool) {
-    *count = count.wrapping_add(test as u64);
-}
-
-// Counts the positions of a certificate by their sides, and those where the fixpoint says otherwise.
-fn count_sides(
-    counts: &mut Counts,
-    plant: &Plant,
-    arena: &OpenedStrip,
-    certificate: &[u8],
-    c: u16,
-) {
-    let set = winning(plant);
-    for p in 0..plant.n {
-        let side = side_of(arena, certificate, p);
-        tally(&mut counts.positions, true);
-        tally(&mut counts.controllers, side == 0);
-        tally(&mut counts.traffics, side == 1);
-        tally(&mut counts.differences, has(set, p) != (side == 0));
-    }
-    tally(&mut counts.differences, set.count_ones() != c as u32);
-}
-
-// Solves the plant, which the arena is opened from, and counts what is said of it.
+/// Solves the plant, which the arena is opened from, and adds what is found.
 fn judge(
     rt: &HostRuntime,
-    counts: &mut Counts,
+    findings: &mut Vec<Finding>,
     plant: &Plant,
     arena: &OpenedStrip,
 ) -> anyhow::Result<()> {
-    let mut certificate = vec![in rt.alloc(); 0u8; certificate_bytes(arena)]?;
+    let mut bytes = vec![in rt.alloc(); 0u8; certificate_bytes(arena)]?;
     let mut work = [0; NUMBERS];
-    let Ok((c, stages)) = solve(arena, certificate.as_mut_slice(), &mut work) else {
-        return Err(anyhow!("a drawn plant is not solved"));
+    let Ok((c, stages)) = solve(arena, bytes.as_mut_slice(), &mut work) else {
+        bail!("a drawn plant is not solved");
     };
-    count_sides(counts, plant, arena, certificate.as_slice(), c);
-    tally(&mut counts.several_stages, stages > 1);
-    match check(arena, certificate.as_slice()) {
-        Ok(answer) => tally(&mut counts.differences, answer != c),
-        Err(_) => tally(&mut counts.refused, true),
+    let certificate = Certificate {
+        arena,
+        bytes: &bytes,
+    };
+    let set = winning(plant);
+    for p in 0..plant.n {
+        let side = certificate.side_of(p);
+        findings.push(Finding::Side(side))?;
+        if has(set, p) != (side == 0) {
+            findings.push(Finding::Difference)?;
+        }
+    }
+    if set.count_ones() != u32::from(c) {
+        findings.push(Finding::Difference)?;
+    }
+    if stages > 1 {
+        findings.push(Finding::SeveralStages)?;
+    }
+    match check(arena, &bytes) {
+        Ok(answer) if answer == c => {}
+        Ok(_) => findings.push(Finding::Difference)?,
+        Err(_) => findings.push(Finding::Refused)?,
     }
     Ok(())
 }
 
-// Opens the strip that stores the plant, and judges it.
-fn judge_strip(
-    rt: &HostRuntime,
-    counts: &mut Counts,
-    plant: &Plant,
-    strip: &[u8],
-) -> anyhow::Result<()> {
+/// Draws the next plant, opens the strip that stores it, and judges it.
+fn next(rt: &HostRuntime, random: &mut Random, findings: &mut Vec<Finding>) -> anyhow::Result<()> {
+    let plant = draw(rt.alloc(), random)?;
+    let strip = strip_of(rt.alloc(), &plant)?;
     let mut arena = OpenedStrip::empty();
-    if open(strip, &mut arena).is_err() {
-        return Err(anyhow!("a drawn strip does not open"));
+    if open(&strip, &mut arena).is_err() {
+        bail!("a drawn strip does not open");
     }
-    judge(rt, counts, plant, &arena)
+    judge(rt, findings, &plant, &arena)
 }
 
-// Draws the next plant, and judges the strip that stores it.
-fn next(rt: &HostRuntime, random: &mut Random, counts: &mut Counts) -> anyhow::Result<()> {
-    let plant = draw(random);
-    let mut strip = Vec::new(rt.alloc());
-    put_strip(&mut strip, &plant)?;
-    judge_strip(rt, counts, &plant, strip.as_slice())
+/// How many of the findings are such.
+fn count(findings: &[Finding], such: Finding) -> usize {
+    findings.iter().filter(|finding| **finding == such).count()
 }
 
-// Prints the counts, a line each.
-fn show(rt: &HostRuntime, counts: Counts) -> anyhow::Result<()> {
-    let Counts {
-        positions,
-        controllers,
-        traffics,
-        several_stages,
-        differences,
-        refused,
-    } = counts;
+/// Compares what solve says of drawn plants with what another algorithm does, the nested fixpoint, and what check answers.
+fn main(rt: HostRuntime) -> anyhow::Result<()> {
+    let mut random = Random { state: 1 };
+    let mut findings = Vec::new(rt.alloc());
+    for _ in 0..PLANTS {
+        next(&rt, &mut random, &mut findings)?;
+    }
+    let controllers = count(&findings, Finding::Side(0));
+    let traffics = count(&findings, Finding::Side(1));
+    let several_stages = count(&findings, Finding::SeveralStages);
+    let differences = count(&findings, Finding::Difference);
+    let refused = count(&findings, Finding::Refused);
+    let positions = findings
+        .iter()
+        .filter(|finding| matches!(finding, Finding::Side(_)))
+        .count();
     println!(rt; "plants {PLANTS}")?;
     println!(rt; "positions {positions}")?;
     println!(rt; "controller's {controllers}")?;
@@ -115,25 +112,4 @@ fn show(rt: &HostRuntime, counts: Counts) -> anyhow::Result<()> {
     println!(rt; "differences {differences}")?;
     println!(rt; "refused by check {refused}")?;
     Ok(())
-}
-
-/// Compares what solve says of drawn plants with what another algorithm does, the nested fixpoint, and what check answers.
-fn run(rt: &HostRuntime) -> anyhow::Result<()> {
-    let mut random = Random { state: 1 };
-    let mut counts = Counts {
-        positions: 0,
-        controllers: 0,
-        traffics: 0,
-        several_stages: 0,
-        differences: 0,
-        refused: 0,
-    };
-    for _ in 0..PLANTS {
-        next(rt, &mut random, &mut counts)?;
-    }
-    show(rt, counts)
-}
-
-fn main(rt: HostRuntime) -> anyhow::Result<()> {
-    run(&rt)
 }

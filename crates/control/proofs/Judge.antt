@@ -66,10 +66,10 @@ module _ (m : Meaning) (bs : List ℕ) where
   walk_passed : (i n : ℕ) (next : Outcome ℕ) (c : ℕ) → walk m bs (from i n) next ≡ accepted c → (p : ℕ) → i ≤ p → p < i + n → Passed (clauses m bs p)
   walk_passed i zero next c e p low high = absurd (omega arith)
   walk_passed i (suc n) next c e p low high =
-      let r = failing_passed i 3 (clauses m bs i) (walk m bs (from (suc i) n) next) c e in
+      let r = failing_passed i 3 (clauses m bs i) (walk m bs (from (i + 1) n) next) c e in
       elim (cases_eq i p) [
         | inl here ↦ subst (λ x. Passed (clauses m bs x)) here r.0
-        | inr there ↦ walk_passed (suc i) n next c r.1 p (omega arith) (omega arith)
+        | inr there ↦ walk_passed (i + 1) n next c r.1 p (omega arith) (omega arith)
       ]
 
   good_says : (p q : ℕ) → good_step_of m bs p q ≡ true → Good (side_of m bs) (goal_of m bs) (stage_of m bs) (approach_of m bs) p q

@@ -9,5 +9,3 @@ pub mod Hold
 pub mod Stretch
 pub mod Win
 pub mod Kept
-pub mod Loops
-pub mod Turns

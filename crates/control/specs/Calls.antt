@@ -3,13 +3,14 @@
 use Rattle.std.specs.Prelude.{◌≡◌, ℕ, true, false, cond, List, [], Ok, Err, Result}
 use Rattle.arena.specs.Refusals.{Outcome, accepted, refused}
 use Rattle.arena.specs.Arena.{Meaning}
+use Rattle.arena.specs.Sizes.{size_refusal}
 use Rattle.control.specs.Run.{Place, idle, on, Call, start, go, moved, turn, answer, settled}
 use Rattle.control.specs.declared.runner.Event.{Event}
 use Rattle.control.specs.declared.runner.Event.TheVariants.{Start, Go, Moved}
 use Rattle.control.specs.declared.runner.Turn.{Turn}
 use Rattle.control.specs.declared.runner.Turn.TheVariants.{Nobody, Controller, Traffic}
 use Rattle.control.specs.declared.runner.RunFault.{RunFault}
-use Rattle.control.specs.declared.runner.RunFault.TheVariants.{Positions, Goals, Length, Position, Side, Move, NotNow, Field}
+use Rattle.control.specs.declared.runner.RunFault.TheVariants.{Size, Length, Position, Side, Move, NotNow, Field}
 use Rattle.control.specs.declared.runner.Runner.{Runner}
 
 -- where a runner is
@@ -31,9 +32,8 @@ call_of bs Go = go bs
 call_of bs (Moved q) = moved bs q
 
 -- why a runner refuses
-abbrev pub run_refusal : RunFault → Outcome (ℕ × ℕ)
-run_refusal Positions = refused 1 []
-run_refusal Goals = refused 2 []
+abbrev pub run_refusal : {A : Type 0} → RunFault → Outcome A
+run_refusal (Size e) = size_refusal e
 run_refusal Length = refused 3 []
 run_refusal Position = refused 4 []
 run_refusal Side = refused 15 []

@@ -1,4 +1,5 @@
 pub mod Accept
+pub mod Clauses
 pub mod Run
 pub mod Promise
 pub mod Answers

@@ -1,8 +1,7 @@
-ghost use Rattle.std.specs.Prelude.{◌≡◌, ℕ, ◌+◌, ◌^◌, ◌<◌, true};
-ghost use Rattle.arena.specs.Bytes.{byte, number};
-ghost use Rattle.arena.specs.Sets.{all, elem};
-ghost use Rattle.arena.specs.Certificate.{approach_of, goal_of, side_of};
+ghost use Rattle.std.specs.Prelude.{◌≡◌, ℕ, ◌<◌, true, option_map};
+ghost use Rattle.arena.specs.Sets.{all};
 ghost use Rattle.control.specs.Accept.{
+  avoided,
   carried,
   carried_for,
   clause_4,
@@ -12,11 +11,10 @@ ghost use Rattle.control.specs.Accept.{
   clause_8,
   clause_9,
   clauses,
-  end_right,
   first_failing,
   good_step_of,
-  head_right,
-  mark,
+  held,
+  kept,
   nearer_of,
   ranked,
   ranked_for,
@@ -25,378 +23,246 @@ ghost use Rattle.control.specs.Accept.{
   steered_for,
   unheld,
   unserved,
-  unserved_for,
 };
+ghost use Rattle.control.specs.Clauses.{clause_number};
 
-use super::questions::{is_marked, is_move, is_owned};
-use arena::{
-    Arena, approach_of, byte_at, goal_move_of, goal_of, move_of, number_at, rank_of, record_start,
-    side_of, stage_of,
-};
+use super::record::{Record, has_move};
+use arena::{Arena, Owner, is_marked_by, record_start};
 
 /// What stands in a field for no move.
 const NO_MOVE: u16 = 65535;
 
-/// Whether the mark 43 `second` stands at place `i`.
-fn is_mark(bytes: &[u8], i: usize, second: u8) -> bool
-    requires { i < 2 ^ 40 }
-    ensures { result ≡ mark bytes.now i second }
-{
-    if byte_at(bytes, i) != 0x43 {
-        return false;
-    }
-    byte_at(bytes, i + 1) == second
+/// The clauses of a certificate, in the order in which check asks them.
+#[derive(Clone, Copy, Debug, PartialEq, Eq)]
+pub enum Clause {
+    /// The head is right for the arena.
+    Head,
+    /// The end is right.
+    End,
+    /// The record has its mark, a side, and zeros where they are due; on side 1 a stage from 1 on and a goal of the arena.
+    Shape,
+    /// On side 0 each rank is below the number of positions, and is 0 exactly where the position is marked for the goal.
+    Ranks,
+    /// On side 0 the controller's move for each goal comes nearer to it.
+    Steered,
+    /// On side 0 every move of the traffic comes nearer to every goal.
+    Carried,
+    /// On side 1 a position of approach 0 is unmarked for its goal.
+    Avoided,
+    /// On side 1 the traffic's move is a good step.
+    Held,
+    /// On side 1 every move of the controller is a good step.
+    Kept,
 }
 
-/// Clause 1: the head is right for the arena.
-pub(crate) fn is_head_right<A: Arena>(arena: &A, bytes: &[u8]) -> bool
-    ensures { result ≡ head_right (A.meaning arena.now) bytes.now }
-{
-    if !is_mark(bytes, 0, 0x48) {
-        return false;
-    }
-    if number_at(bytes, 2) != arena.positions() {
-        return false;
-    }
-    number_at(bytes, 4) == arena.goals()
-}
+impl From<Clause> for u8 {
+    ghost from_gives = { λ clause number. number ≡ clause_number clause };
 
-/// Clause 2: the end is right.
-pub(crate) fn is_end_right<A: Arena>(arena: &A, bytes: &[u8]) -> bool
-    ensures { result ≡ end_right (A.meaning arena.now) bytes.now }
-{
-    let n = arena.positions();
-    let end = record_start(arena, n);
-    if !is_mark(bytes, end, 0x45) {
-        return false;
-    }
-    number_at(bytes, end + 2) == n
-}
-
-/// Whether the step from `p` to `q` leads to side 0 and, if the rank for goal `g` is above 0, to a smaller rank.
-fn is_nearer<A: Arena>(arena: &A, bytes: &[u8], g: u16, p: u16, q: u16) -> bool
-    ensures { result ≡ nearer_of (A.meaning arena.now) bytes.now g p q }
-{
-    if side_of(arena, bytes, q) != 0 {
-        return false;
-    }
-    let rank = rank_of(arena, bytes, g, p);
-    if rank == 0 {
-        return true;
-    }
-    rank_of(arena, bytes, g, q) < rank
-}
-
-/// Whether the step from `p` to `q` is a good one for the traffic: to side 1, and either to a smaller stage, or to the
-/// same stage and goal with a smaller approach, or there from approach 0 to approach 0.
-fn is_good_step<A: Arena>(arena: &A, bytes: &[u8], p: u16, q: u16) -> bool
-    ensures { result ≡ good_step_of (A.meaning arena.now) bytes.now p q }
-{
-    if side_of(arena, bytes, q) != 1 {
-        return false;
-    }
-    let old = stage_of(arena, bytes, p);
-    let new = stage_of(arena, bytes, q);
-    if new < old {
-        return true;
-    }
-    if new != old {
-        return false;
-    }
-    if goal_of(arena, bytes, q) != goal_of(arena, bytes, p) {
-        return false;
-    }
-    let far = approach_of(arena, bytes, p);
-    let near = approach_of(arena, bytes, q);
-    near < far || (far == 0 && near == 0)
-}
-
-/// Whether every move of position `p` comes nearer to goal `g`.
-fn do_all_come_nearer<A: Arena>(arena: &A, bytes: &[u8], g: u16, p: u16) -> bool
-    requires { p < (A.meaning arena.now).size }
-    ensures { result ≡ all (nearer_of (A.meaning arena.now) bytes.now g p) ((A.meaning arena.now).moves p) }
-{
-    let Some(count) = arena.move_count(p) else {
-        return false;
-    };
-    for j in 0..count {
-        let Some(q) = arena.nth_move(p, j) else {
-            return false;
-        };
-        if !is_nearer(arena, bytes, g, p, q) {
-            return false;
+    fn from(clause: Clause) -> u8 {
+        match clause {
+            Clause::Head => 1,
+            Clause::End => 2,
+            Clause::Shape => 3,
+            Clause::Ranks => 4,
+            Clause::Steered => 5,
+            Clause::Carried => 6,
+            Clause::Avoided => 7,
+            Clause::Held => 8,
+            Clause::Kept => 9,
         }
     }
-    true
 }
 
-/// Whether every move of position `p` is a good step.
-fn are_all_good_steps<A: Arena>(arena: &A, bytes: &[u8], p: u16) -> bool
-    requires { p < (A.meaning arena.now).size }
-    ensures { result ≡ all (good_step_of (A.meaning arena.now) bytes.now p) ((A.meaning arena.now).moves p) }
-{
-    let Some(count) = arena.move_count(p) else {
-        return false;
-    };
-    for j in 0..count {
-        let Some(q) = arena.nth_move(p, j) else {
-            return false;
-        };
-        if !is_good_step(arena, bytes, p, q) {
-            return false;
-        }
+impl<A: Arena> Record<'_, A> {
+    /// Whether the goal, stage, approach and the traffic's move are zero, as side 0 has them.
+    fn is_unheld(&self) -> bool
+        ensures { result ≡ unheld (A.meaning self.now.certificate.now.arena.now) self.now.certificate.now.bytes.now self.now.position }
+    {
+        let c = self.certificate;
+        let p = self.position;
+        c.goal_of(p) == 0 && c.stage_of(p) == 0 && c.approach_of(p) == 0 && c.move_of(p) == 0
     }
-    true
-}
 
-/// Whether the record's goal, stage, approach and the traffic's move are zero, as side 0 has them.
-fn is_unheld<A: Arena>(arena: &A, bytes: &[u8], p: u16) -> bool
-    ensures { result ≡ unheld (A.meaning arena.now) bytes.now p }
-{
-    if goal_of(arena, bytes, p) != 0 {
-        return false;
+    /// Whether the rank and the move of every goal are zero, as side 1 has them.
+    fn is_unserved(&self) -> bool
+        ensures { result ≡ unserved (A.meaning self.now.certificate.now.arena.now) self.now.certificate.now.bytes.now self.now.position }
+    {
+        let c = self.certificate;
+        let p = self.position;
+        (0..c.arena.goals()).all(|g| c.rank_of(g, p) == 0 && c.goal_move_of(g, p) == 0)
     }
-    if stage_of(arena, bytes, p) != 0 {
-        return false;
-    }
-    if approach_of(arena, bytes, p) != 0 {
-        return false;
-    }
-    move_of(arena, bytes, p) == 0
-}
 
-/// Whether the rank and the move of goal `g` are zero, as side 1 has them.
-fn is_unserved_for<A: Arena>(arena: &A, bytes: &[u8], p: u16, g: u16) -> bool
-    ensures { result ≡ unserved_for (A.meaning arena.now) bytes.now p g }
-{
-    if rank_of(arena, bytes, g, p) != 0 {
-        return false;
-    }
-    goal_move_of(arena, bytes, g, p) == 0
-}
-
-/// Whether the rank and the move of every goal are zero, as side 1 has them.
-fn is_unserved<A: Arena>(arena: &A, bytes: &[u8], p: u16) -> bool
-    ensures { result ≡ unserved (A.meaning arena.now) bytes.now p }
-{
-    for g in 0..arena.goals() {
-        if !is_unserved_for(arena, bytes, p, g) {
+    /// Clause 3: the mark, a side, the fields due to be zero, and on side 1 a stage from 1 on and a goal of the arena.
+    fn is_shaped(&self) -> bool
+        ensures { result ≡ shaped (A.meaning self.now.certificate.now.arena.now) self.now.certificate.now.bytes.now self.now.position }
+    {
+        let c = self.certificate;
+        let p = self.position;
+        if !is_marked_by(c.bytes, record_start(c.arena, p), [0x43, 0x50]) {
             return false;
         }
-    }
-    true
-}
-
-/// Clause 3: the mark, a side, the fields due to be zero, and on side 1 a stage from 1 on and a goal of the arena.
-fn is_shaped<A: Arena>(arena: &A, bytes: &[u8], p: u16) -> bool
-    ensures { result ≡ shaped (A.meaning arena.now) bytes.now p }
-{
-    if !is_mark(bytes, record_start(arena, p), 0x50) {
-        return false;
-    }
-    let side = side_of(arena, bytes, p);
-    if side == 0 {
-        return is_unheld(arena, bytes, p);
-    }
-    if side != 1 {
-        return false;
-    }
-    if stage_of(arena, bytes, p) < 1 {
-        return false;
-    }
-    if goal_of(arena, bytes, p) as u16 >= arena.goals() {
-        return false;
-    }
-    is_unserved(arena, bytes, p)
-}
-
-/// Whether the rank for goal `g` is below the number of positions, and is 0 exactly when the position is marked for it.
-fn is_ranked_for<A: Arena>(arena: &A, bytes: &[u8], p: u16, g: u16) -> bool
-    requires { (p < (A.meaning arena.now).size) × (g < (A.meaning arena.now).goals) }
-    ensures { result ≡ ranked_for (A.meaning arena.now) bytes.now p g }
-{
-    let rank = rank_of(arena, bytes, g, p);
-    if rank >= arena.positions() {
-        return false;
-    }
-    (rank == 0) == is_marked(arena, p, g)
-}
-
-/// Whether each rank is below the number of positions, and is 0 exactly when the position is marked for the goal.
-fn is_ranked<A: Arena>(arena: &A, bytes: &[u8], p: u16) -> bool
-    requires { p < (A.meaning arena.now).size }
-    ensures { result ≡ ranked (A.meaning arena.now) bytes.now p }
-{
-    for g in 0..arena.goals() {
-        if !is_ranked_for(arena, bytes, p, g) {
-            return false;
+        if c.side_of(p) == 0 {
+            return self.is_unheld();
         }
+        c.side_of(p) == 1
+            && c.stage_of(p) > 0
+            && u16::from(c.goal_of(p)) < c.arena.goals()
+            && self.is_unserved()
     }
-    true
-}
 
-/// Whether the field of goal `g` is a move that comes nearer to it.
-fn is_steered_for<A: Arena>(arena: &A, bytes: &[u8], p: u16, g: u16) -> bool
-    requires { p < (A.meaning arena.now).size }
-    ensures { result ≡ steered_for (A.meaning arena.now) bytes.now p g }
-{
-    let q = goal_move_of(arena, bytes, g, p);
-    if !is_move(arena, p, q) {
-        return false;
+    /// Whether the rank for goal `g` is below the number of positions, and is 0 exactly when the position is marked for it.
+    fn is_ranked_for(&self, g: u16) -> bool
+        requires { g < (A.meaning self.now.certificate.now.arena.now).goals }
+        ensures { result ≡ ranked_for (A.meaning self.now.certificate.now.arena.now) self.now.certificate.now.bytes.now self.now.position g }
+    {
+        let rank = self.certificate.rank_of(g, self.position);
+        rank < self.certificate.arena.positions() && (rank == 0) == self.is_marked(g)
     }
-    is_nearer(arena, bytes, g, p, q)
-}
 
-/// Whether for each goal the field is a move that comes nearer to it.
-fn is_steered<A: Arena>(arena: &A, bytes: &[u8], p: u16) -> bool
-    requires { p < (A.meaning arena.now).size }
-    ensures { result ≡ steered (A.meaning arena.now) bytes.now p }
-{
-    for g in 0..arena.goals() {
-        if !is_steered_for(arena, bytes, p, g) {
-            return false;
+    /// Whether each rank is below the number of positions, and is 0 exactly when the position is marked for the goal.
+    fn is_ranked(&self) -> bool
+        ensures { result ≡ ranked (A.meaning self.now.certificate.now.arena.now) self.now.certificate.now.bytes.now self.now.position }
+    {
+        (0..self.certificate.arena.goals()).all(|g| self.is_ranked_for(g))
+    }
+
+    /// Whether for each goal the field is a move that comes nearer to it.
+    fn is_steered(&self) -> bool
+        ensures { result ≡ steered (A.meaning self.now.certificate.now.arena.now) self.now.certificate.now.bytes.now self.now.position }
+    {
+        (0..self.certificate.arena.goals()).all(|g| self.is_steered_for(g))
+    }
+
+    /// Whether the field of goal `g` is a move that comes nearer to it.
+    fn is_steered_for(&self, g: u16) -> bool
+        ensures { result ≡ steered_for (A.meaning self.now.certificate.now.arena.now) self.now.certificate.now.bytes.now self.now.position g }
+    {
+        let q = self.certificate.goal_move_of(g, self.position);
+        has_move(self.certificate.arena, self.position, q) && self.is_nearer(g, q)
+    }
+
+    /// Whether every move comes nearer to goal `g`.
+    fn do_all_come_nearer(&self, g: u16) -> bool
+        ensures { result ≡ all (nearer_of (A.meaning self.now.certificate.now.arena.now) self.now.certificate.now.bytes.now g self.now.position) ((A.meaning self.now.certificate.now.arena.now).moves self.now.position) }
+    {
+        self.moves().all(|q| self.is_nearer(g, q))
+    }
+
+    /// Whether the field of goal `g` names no move, and every move comes nearer to the goal.
+    fn is_carried_for(&self, g: u16) -> bool
+        ensures { result ≡ carried_for (A.meaning self.now.certificate.now.arena.now) self.now.certificate.now.bytes.now self.now.position g }
+    {
+        self.certificate.goal_move_of(g, self.position) == NO_MOVE && self.do_all_come_nearer(g)
+    }
+
+    /// Whether the fields name no move, and every move comes nearer to every goal.
+    fn is_carried(&self) -> bool
+        ensures { result ≡ carried (A.meaning self.now.certificate.now.arena.now) self.now.certificate.now.bytes.now self.now.position }
+    {
+        (0..self.certificate.arena.goals()).all(|g| self.is_carried_for(g))
+    }
+
+    /// Whether the traffic's field is a move and a good step.
+    fn is_held(&self) -> bool
+        ensures { result ≡ held (A.meaning self.now.certificate.now.arena.now) self.now.certificate.now.bytes.now self.now.position }
+    {
+        let q = self.certificate.move_of(self.position);
+        has_move(self.certificate.arena, self.position, q) && self.is_good_step(q)
+    }
+
+    /// Whether every move is a good step.
+    fn are_all_good_steps(&self) -> bool
+        ensures { result ≡ all (good_step_of (A.meaning self.now.certificate.now.arena.now) self.now.certificate.now.bytes.now self.now.position) ((A.meaning self.now.certificate.now.arena.now).moves self.now.position) }
+    {
+        self.moves().all(|q| self.is_good_step(q))
+    }
+
+    /// Whether the traffic's field names no move, and every move is a good step.
+    fn is_kept(&self) -> bool
+        ensures { result ≡ kept (A.meaning self.now.certificate.now.arena.now) self.now.certificate.now.bytes.now self.now.position }
+    {
+        self.certificate.move_of(self.position) == NO_MOVE && self.are_all_good_steps()
+    }
+
+    /// Clause 4, asked on side 0.
+    fn meets_ranks(&self) -> bool
+        ensures { result ≡ clause_4 (A.meaning self.now.certificate.now.arena.now) self.now.certificate.now.bytes.now self.now.position }
+    {
+        self.certificate.side_of(self.position) != 0 || self.is_ranked()
+    }
+
+    /// Clause 5, asked on side 0 where the controller owns.
+    fn meets_steering(&self) -> bool
+        ensures { result ≡ clause_5 (A.meaning self.now.certificate.now.arena.now) self.now.certificate.now.bytes.now self.now.position }
+    {
+        let asked = self.certificate.side_of(self.position) == 0
+            && self.is_owned(Owner::Controller);
+        !asked || self.is_steered()
+    }
+
+    /// Clause 6, asked on side 0 where the traffic owns.
+    fn meets_carrying(&self) -> bool
+        ensures { result ≡ clause_6 (A.meaning self.now.certificate.now.arena.now) self.now.certificate.now.bytes.now self.now.position }
+    {
+        let asked = self.certificate.side_of(self.position) == 0 && self.is_owned(Owner::Traffic);
+        !asked || self.is_carried()
+    }
+
+    /// Clause 7, asked on side 1 at approach 0. The record has passed clause 3.
+    fn meets_avoidance(&self) -> bool
+        requires { shaped (A.meaning self.now.certificate.now.arena.now) self.now.certificate.now.bytes.now self.now.position ≡ true }
+        ensures { result ≡ clause_7 (A.meaning self.now.certificate.now.arena.now) self.now.certificate.now.bytes.now self.now.position }
+    {
+        let c = self.certificate;
+        let p = self.position;
+        if c.side_of(p) != 1 {
+            return true;
         }
+        c.approach_of(p) != 0 || !self.is_marked(c.goal_of(p).into())
     }
-    true
-}
 
-/// Whether the field of goal `g` names no move, and every move comes nearer to the goal.
-fn is_carried_for<A: Arena>(arena: &A, bytes: &[u8], p: u16, g: u16) -> bool
-    requires { p < (A.meaning arena.now).size }
-    ensures { result ≡ carried_for (A.meaning arena.now) bytes.now p g }
-{
-    if goal_move_of(arena, bytes, g, p) != NO_MOVE {
-        return false;
+    /// Clause 8, asked on side 1 where the traffic owns.
+    fn meets_holding(&self) -> bool
+        ensures { result ≡ clause_8 (A.meaning self.now.certificate.now.arena.now) self.now.certificate.now.bytes.now self.now.position }
+    {
+        let asked = self.certificate.side_of(self.position) == 1 && self.is_owned(Owner::Traffic);
+        !asked || self.is_held()
     }
-    do_all_come_nearer(arena, bytes, g, p)
-}
 
-/// Whether the fields name no move, and every move comes nearer to every goal.
-fn is_carried<A: Arena>(arena: &A, bytes: &[u8], p: u16) -> bool
-    requires { p < (A.meaning arena.now).size }
-    ensures { result ≡ carried (A.meaning arena.now) bytes.now p }
-{
-    for g in 0..arena.goals() {
-        if !is_carried_for(arena, bytes, p, g) {
-            return false;
+    /// Clause 9, asked on side 1 where the controller owns.
+    fn meets_keeping(&self) -> bool
+        ensures { result ≡ clause_9 (A.meaning self.now.certificate.now.arena.now) self.now.certificate.now.bytes.now self.now.position }
+    {
+        let asked = self.certificate.side_of(self.position) == 1
+            && self.is_owned(Owner::Controller);
+        !asked || self.is_kept()
+    }
+
+    /// The first clause from the third on that fails.
+    pub(crate) fn first_failing(&self) -> Option<Clause>
+        ensures { option_map clause_number result ≡ first_failing 3 (clauses (A.meaning self.now.certificate.now.arena.now) self.now.certificate.now.bytes.now self.now.position) }
+    {
+        if !self.is_shaped() {
+            return Some(Clause::Shape);
         }
+        if !self.meets_ranks() {
+            return Some(Clause::Ranks);
+        }
+        if !self.meets_steering() {
+            return Some(Clause::Steered);
+        }
+        if !self.meets_carrying() {
+            return Some(Clause::Carried);
+        }
+        if !self.meets_avoidance() {
+            return Some(Clause::Avoided);
+        }
+        if !self.meets_holding() {
+            return Some(Clause::Held);
+        }
+        if !self.meets_keeping() {
+            return Some(Clause::Kept);
+        }
+        None
     }
-    true
-}
-
-/// Clause 4, asked on side 0: each rank is below the number of positions, and is 0 exactly on a marked position.
-fn clause_4<A: Arena>(arena: &A, bytes: &[u8], p: u16) -> bool
-    requires { p < (A.meaning arena.now).size }
-    ensures { result ≡ clause_4 (A.meaning arena.now) bytes.now p }
-{
-    if side_of(arena, bytes, p) != 0 {
-        return true;
-    }
-    is_ranked(arena, bytes, p)
-}
-
-/// Clause 5, asked on side 0 where the controller owns: for each goal the field is a move that comes nearer to it.
-fn clause_5<A: Arena>(arena: &A, bytes: &[u8], p: u16) -> bool
-    requires { p < (A.meaning arena.now).size }
-    ensures { result ≡ clause_5 (A.meaning arena.now) bytes.now p }
-{
-    if side_of(arena, bytes, p) != 0 {
-        return true;
-    }
-    if !is_owned(arena, p, 0) {
-        return true;
-    }
-    is_steered(arena, bytes, p)
-}
-
-/// Clause 6, asked on side 0 where the traffic owns: the fields name no move, and every move comes nearer to every goal.
-fn clause_6<A: Arena>(arena: &A, bytes: &[u8], p: u16) -> bool
-    requires { p < (A.meaning arena.now).size }
-    ensures { result ≡ clause_6 (A.meaning arena.now) bytes.now p }
-{
-    if side_of(arena, bytes, p) != 0 {
-        return true;
-    }
-    if !is_owned(arena, p, 1) {
-        return true;
-    }
-    is_carried(arena, bytes, p)
-}
-
-/// Clause 7, asked on side 1 at approach 0: the position is unmarked for its goal. The record has passed clause 3.
-fn clause_7<A: Arena>(arena: &A, bytes: &[u8], p: u16) -> bool
-    requires { (p < (A.meaning arena.now).size) × (shaped (A.meaning arena.now) bytes.now p ≡ true) }
-    ensures { result ≡ clause_7 (A.meaning arena.now) bytes.now p }
-{
-    if side_of(arena, bytes, p) != 1 {
-        return true;
-    }
-    if approach_of(arena, bytes, p) != 0 {
-        return true;
-    }
-    !is_marked(arena, p, goal_of(arena, bytes, p) as u16)
-}
-
-/// Clause 8, asked on side 1 where the traffic owns: the field is a move and a good step.
-fn clause_8<A: Arena>(arena: &A, bytes: &[u8], p: u16) -> bool
-    requires { p < (A.meaning arena.now).size }
-    ensures { result ≡ clause_8 (A.meaning arena.now) bytes.now p }
-{
-    if side_of(arena, bytes, p) != 1 {
-        return true;
-    }
-    if !is_owned(arena, p, 1) {
-        return true;
-    }
-    let q = move_of(arena, bytes, p);
-    if !is_move(arena, p, q) {
-        return false;
-    }
-    is_good_step(arena, bytes, p, q)
-}
-
-/// Clause 9, asked on side 1 where the controller owns: the field names no move, and every move is a good step.
-fn clause_9<A: Arena>(arena: &A, bytes: &[u8], p: u16) -> bool
-    requires { p < (A.meaning arena.now).size }
-    ensures { result ≡ clause_9 (A.meaning arena.now) bytes.now p }
-{
-    if side_of(arena, bytes, p) != 1 {
-        return true;
-    }
-    if !is_owned(arena, p, 0) {
-        return true;
-    }
-    if move_of(arena, bytes, p) != NO_MOVE {
-        return false;
-    }
-    are_all_good_steps(arena, bytes, p)
-}
-
-/// The number of the first clause from the third on that fails at position `p`.
-pub(crate) fn first_failing_at<A: Arena>(arena: &A, bytes: &[u8], p: u16) -> Option<u8>
-    requires { p < (A.meaning arena.now).size }
-    ensures { result ≡ first_failing 3 (clauses (A.meaning arena.now) bytes.now p) }
-{
-    if !is_shaped(arena, bytes, p) {
-        return Some(3);
-    }
-    if !clause_4(arena, bytes, p) {
-        return Some(4);
-    }
-    if !clause_5(arena, bytes, p) {
-        return Some(5);
-    }
-    if !clause_6(arena, bytes, p) {
-        return Some(6);
-    }
-    if !clause_7(arena, bytes, p) {
-        return Some(7);
-    }
-    if !clause_8(arena, bytes, p) {
-        return Some(8);
-    }
-    if !clause_9(arena, bytes, p) {
-        return Some(9);
-    }
-    None
 }

@@ -1,10 +1,12 @@
+ghost use Rattle.control.specs.declared.runner.RunFault.TheVariants.{Size};
 ghost use Rattle.std.specs.Prelude.{◌≡◌, ℕ, ◌<◌, true};
-ghost use Rattle.control.specs.Answers.{cause};
+ghost use Rattle.arena.specs.Told.{Same};
 ghost use Rattle.control.specs.Calls.{Called, call_of, new_runner, place_of, reply, run_refusal, whose};
 ghost use Rattle.control.specs.Run.{answer, go, moved, next_aim, start, turn};
 
-use super::questions::{fits, is_between, is_marked, is_move};
-use arena::{Arena, goal_move_of, side_of};
+use super::record::has_move;
+use super::verdict::fits;
+use arena::{Arena, Certificate, Refusal, SizeFault, sized};
 
 /// What may be asked of a runner: to start at a position, to make the controller's move, or to follow the traffic's.
 #[derive(Clone, Copy)]
@@ -17,10 +19,8 @@ pub enum Event {
 /// Why a runner turns an event down.
 #[derive(Clone, Copy, Debug, PartialEq, Eq)]
 pub enum RunFault {
-    /// The arena has no position, or more than 4,096.
-    Positions,
-    /// The arena has no goal, or more than 8.
-    Goals,
+    /// The arena is too small or too large.
+    Size(SizeFault),
     /// The bytes do not have the length of a certificate of the arena.
     Length,
     /// There is no such position to start at.
@@ -35,20 +35,26 @@ pub enum RunFault {
     Field,
 }
 
-impl RunFault {
-    /// The number in the table of refusals.
-    pub fn number(self) -> u8
-        ensures { result ≡ cause (run_refusal self) }
-    {
-        match self {
-            RunFault::Positions => 1,
-            RunFault::Goals => 2,
-            RunFault::Length => 3,
-            RunFault::Position => 4,
-            RunFault::Side => 15,
-            RunFault::Move => 16,
-            RunFault::NotNow => 17,
-            RunFault::Field => 18,
+impl From<SizeFault> for RunFault {
+    ghost from_gives = { λ e r. r ≡ Size e };
+
+    fn from(size: SizeFault) -> RunFault {
+        RunFault::Size(size)
+    }
+}
+
+impl From<RunFault> for Refusal {
+    ghost from_gives = { λ e r. Same r (run_refusal e) };
+
+    fn from(e: RunFault) -> Refusal {
+        match e {
+            RunFault::Size(e) => e.into(),
+            RunFault::Length => Refusal::bare(3),
+            RunFault::Position => Refusal::bare(4),
+            RunFault::Side => Refusal::bare(15),
+            RunFault::Move => Refusal::bare(16),
+            RunFault::NotNow => Refusal::bare(17),
+            RunFault::Field => Refusal::bare(18),
         }
     }
 }
@@ -65,6 +71,7 @@ enum Turn {
 #[derive(Drop)]
 pub struct Runner<A> {
     arena: A,
+    // Three plain numbers, as a controller holds them: position and aim mean nothing while it is idle.
     position: u16,
     aim: u16,
     running: bool,
@@ -88,12 +95,12 @@ impl<A: Arena> Runner<A> {
         }
     }
 
-    /// The aim once position `p` is left: if `p` is marked for it, the goal after it, and after the last the first.
-    fn aim_after(&self, p: u16) -> u16
-        requires { (p < (A.meaning self.now.arena).size) × (self.now.aim < (A.meaning self.now.arena).goals) }
-        ensures { result ≡ next_aim (A.meaning self.now.arena) p self.now.aim }
+    /// The aim once the position is left: if it is marked for it, the goal after it, and after the last the first.
+    fn next_aim(&self) -> u16
+        requires { (self.now.position < (A.meaning self.now.arena).size) × (self.now.aim < (A.meaning self.now.arena).goals) }
+        ensures { result ≡ next_aim (A.meaning self.now.arena) self.now.position self.now.aim }
     {
-        if !is_marked(&self.arena, p, self.aim) {
+        if self.arena.marked(self.position, self.aim) != Some(true) {
             return self.aim;
         }
         let goals = self.arena.goals();
@@ -101,23 +108,30 @@ impl<A: Arena> Runner<A> {
         if next == goals { 0 } else { next }
     }
 
+    /// Bytes shown, as a certificate of the arena.
+    fn shown<'b>(&'b self, certificate: &'b [u8]) -> Certificate<'b, A>
+        ensures arena { result.arena.now ≡ self.now.arena }
+        ensures bytes { result.bytes.now ≡ certificate.now }
+    {
+        Certificate {
+            arena: &self.arena,
+            bytes: certificate,
+        }
+    }
+
     /// What a start answers.
     fn begin(&self, certificate: &[u8], p: u16) -> Result<(u16, u16), RunFault>
         ensures { reply result ≡ answer (A.meaning self.now.arena) (place_of self.now) (start certificate.now p) }
     {
-        if !is_between(1, 4096, self.arena.positions()) {
-            return Err(RunFault::Positions);
-        }
-        if !is_between(1, 8, self.arena.goals()) {
-            return Err(RunFault::Goals);
-        }
-        if !fits(&self.arena, certificate) {
+        sized(&self.arena)?;
+        let shown = self.shown(certificate);
+        if !fits(&shown) {
             return Err(RunFault::Length);
         }
         if p >= self.arena.positions() {
             return Err(RunFault::Position);
         }
-        if side_of(&self.arena, certificate, p) != 0 {
+        if shown.side_of(p) != 0 {
             return Err(RunFault::Side);
         }
         Ok((p, 0))
@@ -128,14 +142,15 @@ impl<A: Arena> Runner<A> {
         requires { turn (A.meaning self.now.arena) 0 (place_of self.now) ≡ true }
         ensures { reply result ≡ answer (A.meaning self.now.arena) (place_of self.now) (go certificate.now) }
     {
-        if !fits(&self.arena, certificate) {
+        let shown = self.shown(certificate);
+        if !fits(&shown) {
             return Err(RunFault::Length);
         }
-        let to = goal_move_of(&self.arena, certificate, self.aim, self.position);
-        if !is_move(&self.arena, self.position, to) {
+        let to = shown.goal_move_of(self.aim, self.position);
+        if !has_move(&self.arena, self.position, to) {
             return Err(RunFault::Field);
         }
-        Ok((to, self.aim_after(self.position)))
+        Ok((to, self.next_aim()))
     }
 
     /// What a move of the traffic to `q` answers at its turn.
@@ -143,13 +158,13 @@ impl<A: Arena> Runner<A> {
         requires { turn (A.meaning self.now.arena) 1 (place_of self.now) ≡ true }
         ensures { reply result ≡ answer (A.meaning self.now.arena) (place_of self.now) (moved certificate.now q) }
     {
-        if !fits(&self.arena, certificate) {
+        if !fits(&self.shown(certificate)) {
             return Err(RunFault::Length);
         }
-        if !is_move(&self.arena, self.position, q) {
+        if !has_move(&self.arena, self.position, q) {
             return Err(RunFault::Move);
         }
-        Ok((q, self.aim_after(self.position)))
+        Ok((q, self.next_aim()))
     }
 
     /// One event with a certificate shown: the only place where a runner changes. An accepted event answers the new

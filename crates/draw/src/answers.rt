@@ -1,44 +1,60 @@
-use sheet_faults::Refusal;
+use arena::Refusal;
 use std::alloc::AllocError;
+use std::fmt;
 
-/// What the program prints for one call.
-#[derive(Clone, Copy)]
+/// What a call tells that was performed.
+#[derive(Clone, Copy, Debug, PartialEq, Eq)]
 pub enum Answer {
-    /// The call was accepted and tells nothing.
+    /// Nothing.
     Done,
-    /// The edit of a draft was accepted, and changed it or not.
+    /// Whether the edit changed the draft.
     Changed(bool),
     /// The count.
     Number(u16),
-    /// The call was refused.
+}
+
+/// Why a line is not performed.
+#[derive(Clone, Copy, Debug, PartialEq, Eq)]
+pub enum Failure {
+    /// The call is refused.
     Refused(Refusal),
     /// The program holds no slip for this seat and position.
     NotHeld,
-    /// There is no memory to hold another slip.
+    /// There is no memory, to hold another slip or for the words of the line.
     NoRoom,
     /// The line is no call.
     NoCall,
 }
 
-/// Adds the line of a refusal: its number, and what it names.
-fn push_refusal(out: &mut String, refusal: Refusal) -> Result<(), AllocError> {
-    let number = refusal.number;
-    match refusal.named {
-        Some(place) => write!(out, "refused {number} {place}\n"),
-        None => write!(out, "refused {number}\n"),
+/// The failure that a call's fault is.
+pub(crate) fn refused<E: Into<Refusal>>(fault: E) -> Failure {
+    Failure::Refused(fault.into())
+}
+
+impl From<AllocError> for Failure {
+    fn from(_e: AllocError) -> Failure {
+        Failure::NoRoom
     }
 }
 
-/// Adds the line of an answer.
-pub(crate) fn push_answer(out: &mut String, answer: Answer) -> Result<(), AllocError> {
-    match answer {
-        Answer::Done => out.push_str("done\n"),
-        Answer::Changed(true) => out.push_str("changed\n"),
-        Answer::Changed(false) => out.push_str("unchanged\n"),
-        Answer::Number(n) => write!(out, "{n}\n"),
-        Answer::Refused(refusal) => push_refusal(out, refusal),
-        Answer::NotHeld => out.push_str("no slip\n"),
-        Answer::NoRoom => out.push_str("no memory\n"),
-        Answer::NoCall => out.push_str("no call\n"),
+impl fmt::Display for Answer {
+    fn fmt<W: fmt::Write>(&self, f: &mut fmt::Formatter<W>) -> fmt::Result {
+        match self {
+            Answer::Done => write!(f, "done"),
+            Answer::Changed(true) => write!(f, "changed"),
+            Answer::Changed(false) => write!(f, "unchanged"),
+            Answer::Number(n) => write!(f, "{n}"),
+        }
+    }
+}
+
+impl fmt::Display for Failure {
+    fn fmt<W: fmt::Write>(&self, f: &mut fmt::Formatter<W>) -> fmt::Result {
+        match self {
+            Failure::Refused(refusal) => write!(f, "{refusal}"),
+            Failure::NotHeld => write!(f, "no slip"),
+            Failure::NoRoom => write!(f, "no memory"),
+            Failure::NoCall => write!(f, "no call"),
+        }
     }
 }

@@ -1,130 +1,84 @@
-ghost use Rattle.std.specs.Prelude.{◌<◌, IfSome, vec_len};
+ghost use Rattle.std.specs.Prelude.{◌<◌, IfOk, vec_len};
 
-use crate::answers::Answer;
-use row::{LinkFault, MarkFault, Owner, Row};
-use sheet::{Sheet, Slip};
+use crate::answers::{Answer, Failure, refused};
+use crate::desk::{Desk, Held};
+use crate::words::owner;
+use row::Row;
+use sheet::Slip;
 
-/// A slip that a seat holds, with the draft of its row. It has to be taken apart and the slip spent.
-pub struct Held {
-    slip: Slip,
-    draft: Row,
+/// Edits a draft by the name of the edit.
+fn edit(draft: &mut Row, name: &str, x: u16) -> Result<Answer, Failure> {
+    let changed = match name {
+        "assign" => draft.assign(owner(x)?),
+        "link" => draft.link(x).map_err(refused)?,
+        "unlink" => draft.unlink(x),
+        "mark" => draft.mark(x).map_err(refused)?,
+        "unmark" => draft.unmark(x).map_err(refused)?,
+        _ => return Err(Failure::NoCall),
+    };
+    Ok(Answer::Changed(changed))
 }
 
-/// The place of what a seat holds for a position.
-fn place(hand: &Vec<Held>, seat: u8, p: u16) -> Option<usize>
-    ensures { IfSome result (λ i. i < vec_len hand.now) }
-{
-    for i in 0..hand.len() {
-        if hand[i].slip.seat() == seat {
-            if hand[i].slip.position() == p {
-                return Some(i);
+impl Desk {
+    /// The place of what a seat holds for a position.
+    fn place(&self, seat: u8, p: u16) -> Result<usize, Failure>
+        ensures { IfOk result (λ i. i < vec_len self.now.hand) }
+    {
+        self.hand
+            .iter()
+            .position(|held| held.slip.seat() == seat && held.slip.position() == p)
+            .ok_or(Failure::NotHeld)
+    }
+
+    /// Holds a slip with its draft; where there is no memory for it the row is let go.
+    fn hold(&mut self, slip: Slip, draft: Row) -> Result<Answer, Failure> {
+        match self.hand.push(Held { slip, draft }) {
+            Ok(()) => Ok(Answer::Done),
+            Err(back) => {
+                let Held { slip, draft: _ } = back.value;
+                let _ = self.sheet.let_go(slip);
+                Err(Failure::NoRoom)
             }
         }
     }
-    None
-}
 
-/// Holds a slip with its draft; where there is no memory for it the row is let go.
-fn hold(sheet: &mut Sheet, hand: &mut Vec<Held>, slip: Slip, draft: Row) -> Answer {
-    match hand.push(Held { slip, draft }) {
-        Ok(()) => Answer::Done,
-        Err(back) => {
-            let Held { slip, draft: _ } = back.value;
-            let _ = sheet.let_go(slip);
-            Answer::NoRoom
+    /// Takes a row and holds the slip.
+    pub(crate) fn take(&mut self, seat: u8, p: u16) -> Result<Answer, Failure> {
+        let mut draft = Row::empty();
+        let slip = self.sheet.take(seat, p, &mut draft).map_err(refused)?;
+        self.hold(slip, draft)
+    }
+
+    /// Puts the draft that a seat holds for a position; a slip that is handed back is held on.
+    pub(crate) fn put(&mut self, seat: u8, p: u16) -> Result<Answer, Failure> {
+        let i = self.place(seat, p)?;
+        let Held { slip, draft } = self.hand.remove(i);
+        match self.sheet.put(slip, &draft) {
+            Ok(()) => Ok(Answer::Done),
+            Err((fault, slip)) => {
+                let _ = self.hold(slip, draft);
+                Err(refused(fault))
+            }
         }
     }
-}
 
-/// Takes a row and holds the slip.
-pub(crate) fn take(sheet: &mut Sheet, hand: &mut Vec<Held>, seat: u8, p: u16) -> Answer {
-    let mut draft = Row::empty();
-    match sheet.take(seat, p, &mut draft) {
-        Ok(slip) => hold(sheet, hand, slip, draft),
-        Err(fault) => Answer::Refused(fault.into()),
+    /// Lets go the row that a seat holds.
+    pub(crate) fn let_go(&mut self, seat: u8, p: u16) -> Result<Answer, Failure> {
+        let i = self.place(seat, p)?;
+        let Held { slip, draft: _ } = self.hand.remove(i);
+        self.sheet.let_go(slip).map_err(refused)?;
+        Ok(Answer::Done)
     }
-}
 
-/// Puts the draft that a seat holds for a position; a slip that is handed back is held on.
-pub(crate) fn put(sheet: &mut Sheet, hand: &mut Vec<Held>, seat: u8, p: u16) -> Answer {
-    let Some(i) = place(hand, seat, p) else {
-        return Answer::NotHeld;
-    };
-    let Held { slip, draft } = hand.remove(i);
-    match sheet.put(slip, &draft) {
-        Ok(()) => Answer::Done,
-        Err((fault, slip)) => {
-            let _ = hold(sheet, hand, slip, draft);
-            Answer::Refused(fault.into())
-        }
+    /// Edits the draft that a seat holds for a position.
+    pub(crate) fn change(
+        &mut self,
+        name: &str,
+        seat: u8,
+        p: u16,
+        x: u16,
+    ) -> Result<Answer, Failure> {
+        let i = self.place(seat, p)?;
+        edit(&mut self.hand[i].draft, name, x)
     }
-}
-
-/// Lets go the row that a seat holds.
-pub(crate) fn let_go(sheet: &mut Sheet, hand: &mut Vec<Held>, seat: u8, p: u16) -> Answer {
-    let Some(i) = place(hand, seat, p) else {
-        return Answer::NotHeld;
-    };
-    let Held { slip, draft: _ } = hand.remove(i);
-    match sheet.let_go(slip) {
-        Ok(()) => Answer::Done,
-        Err(fault) => Answer::Refused(fault.into()),
-    }
-}
-
-/// What an edit that may be refused answers for a move.
-fn linked(r: Result<bool, LinkFault>) -> Answer {
-    match r {
-        Ok(changed) => Answer::Changed(changed),
-        Err(fault) => Answer::Refused(fault.into()),
-    }
-}
-
-/// What an edit that may be refused answers for a mark.
-fn marked(r: Result<bool, MarkFault>) -> Answer {
-    match r {
-        Ok(changed) => Answer::Changed(changed),
-        Err(fault) => Answer::Refused(fault.into()),
-    }
-}
-
-/// Gives the draft an owner: 0 for the controller, 1 for the traffic.
-fn assign(draft: &mut Row, owner: u16) -> Answer {
-    match owner {
-        0 => Answer::Changed(draft.assign(Owner::Controller)),
-        1 => Answer::Changed(draft.assign(Owner::Traffic)),
-        _ => Answer::NoCall,
-    }
-}
-
-/// Edits a draft by the name of the edit.
-fn edit(draft: &mut Row, name: &str, x: u16) -> Answer {
-    match name {
-        "assign" => assign(draft, x),
-        "link" => linked(draft.link(x)),
-        "unlink" => Answer::Changed(draft.unlink(x)),
-        "mark" => marked(draft.mark(x)),
-        "unmark" => marked(draft.unmark(x)),
-        _ => Answer::NoCall,
-    }
-}
-
-/// Edits the draft that a seat holds for a position.
-pub(crate) fn change(hand: &mut Vec<Held>, seat: u8, p: u16, name: &str, x: u16) -> Answer {
-    let Some(i) = place(hand, seat, p) else {
-        return Answer::NotHeld;
-    };
-    let mut draft = hand[i].draft;
-    let answer = edit(&mut draft, name, x);
-    hand[i].draft = draft;
-    answer
-}
-
-/// Lets all rows go that are held still.
-pub(crate) fn let_all_go(sheet: &mut Sheet, mut hand: Vec<Held>) {
-    while let Some(held) = hand.pop() {
-        let Held { slip, draft: _ } = held;
-        let _ = sheet.let_go(slip);
-    }
-    hand.destroy_empty();
 }

@@ -1,13 +1,15 @@
 #![tactic(auto)]
 
 mod answers;
+mod desk;
+mod drawing;
 mod hand;
 mod hex;
 mod perform;
 mod solving;
 mod words;
 
-use perform::drawn;
+use drawing::drawn;
 use std::io::Read;
 use std::{env, fs};
 
@@ -16,20 +18,15 @@ const LIMIT: u64 = 1048576;
 
 /// Reads a list of calls from standard input, performs them on one sheet, and prints each answer and then the strip that
 /// the sheet is. Two arguments name files for the strip and for the certificate of the last accepted solve.
-fn run(rt: &HostRuntime) -> anyhow::Result<()> {
-    let mut text = String::new(rt.alloc());
-    rt.stdin().take(LIMIT).read_to_string(&mut text)?;
-    let drawing = drawn(rt, text.as_str())?;
-    rt.print(drawing.text.as_str())?;
-    let mut words = env::args(rt)?;
-    let _ = words.next();
+fn main(rt: HostRuntime) -> anyhow::Result<()> {
+    let mut calls = String::new(rt.alloc());
+    rt.stdin().take(LIMIT).read_to_string(&mut calls)?;
+    let drawing = drawn(rt.alloc(), calls.as_str())?;
+    rt.print(drawing.text)?;
+    let mut words = env::args(&rt)?.skip(1);
     if let (Some(strip), Some(certificate)) = (words.next(), words.next()) {
-        fs::write(rt, strip, drawing.strip.as_slice())?;
-        fs::write(rt, certificate, drawing.certificate.as_slice())?;
+        fs::write(&rt, strip, drawing.strip)?;
+        fs::write(&rt, certificate, drawing.certificate)?;
     }
     Ok(())
-}
-
-fn main(rt: HostRuntime) -> anyhow::Result<()> {
-    run(&rt)
 }

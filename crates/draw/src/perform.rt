@@ -1,153 +1,60 @@
-use crate::answers::{Answer, push_answer};
-use crate::hand::{Held, change, let_all_go, let_go, put, take};
-use crate::hex::{bytes_of, push_hex};
-use crate::solving::solve;
-use crate::words::{Given, numbers, seat};
-use arena::number_at;
-use sheet::{ClosedSheet, Sheet};
-use std::alloc::{AllocError, Global};
+use crate::answers::{Answer, Failure, refused};
+use crate::desk::Desk;
+use crate::hex::bytes_of;
+use crate::words::{number, seat};
+use sheet::ClosedSheet;
+use std::alloc::AllocError;
 
-/// The length of the longest strip.
-const LONGEST: usize = 19466;
-
-/// Shapes the sheet.
-fn shape(sheet: &mut Sheet, n: u16, k: u16) -> Answer {
-    match sheet.shape(n, k) {
-        Ok(()) => Answer::Done,
-        Err(fault) => Answer::Refused(fault.into()),
+impl Desk {
+    /// Shapes the sheet.
+    fn shape(&mut self, n: u16, k: u16) -> Result<Answer, Failure> {
+        self.sheet.shape(n, k).map_err(refused)?;
+        Ok(Answer::Done)
     }
-}
 
-/// Closes the sheet, and opens it again at once.
-fn close(sheet: &Sheet) -> Answer {
-    let mut closed = ClosedSheet::empty();
-    match sheet.close(&mut closed) {
-        Ok(()) => Answer::Done,
-        Err(fault) => Answer::Refused(fault.into()),
+    /// Closes the sheet, and opens it again at once.
+    fn close(&self) -> Result<Answer, Failure> {
+        let mut closed = ClosedSheet::empty();
+        self.sheet.close(&mut closed).map_err(refused)?;
+        Ok(Answer::Done)
     }
-}
 
-/// Loads the strip that a word is in hexadecimal.
-fn load(heap: Global, sheet: &mut Sheet, word: &str) -> Answer {
-    match bytes_of(heap, word) {
-        Ok(Some(bytes)) => match sheet.load(bytes.as_slice()) {
-            Ok(()) => Answer::Done,
-            Err(fault) => Answer::Refused(fault.into()),
-        },
-        Ok(None) => Answer::NoCall,
-        Err(_) => Answer::NoRoom,
+    /// Loads the strip that a word is in hexadecimal.
+    fn load(&mut self, word: &str) -> Result<Answer, Failure> {
+        let strip = bytes_of(self.heap, word)?;
+        self.sheet.load(&strip).map_err(refused)?;
+        Ok(Answer::Done)
     }
-}
 
-/// A call without numbers.
-fn plain(sheet: &Sheet, name: &str) -> Answer {
-    match name {
-        "count" => Answer::Number(sheet.count()),
-        "close" => close(sheet),
-        _ => Answer::NoCall,
-    }
-}
-
-/// A call with two numbers.
-fn with_two(sheet: &mut Sheet, hand: &mut Vec<Held>, name: &str, a: u16, b: u16) -> Answer {
-    match name {
-        "shape" => shape(sheet, a, b),
-        "take" => take(sheet, hand, seat(a), b),
-        "put" => put(sheet, hand, seat(a), b),
-        "let_go" => let_go(sheet, hand, seat(a), b),
-        _ => Answer::NoCall,
-    }
-}
-
-/// A call by its name and its numbers.
-fn call(sheet: &mut Sheet, hand: &mut Vec<Held>, name: &str, n: Given) -> Answer {
-    let [a, b, c] = n.values;
-    match n.count {
-        0 => plain(sheet, name),
-        2 => with_two(sheet, hand, name, a, b),
-        3 => change(hand, seat(a), b, name, c),
-        _ => Answer::NoCall,
-    }
-}
-
-/// The call of a line.
-fn perform(heap: Global, sheet: &mut Sheet, hand: &mut Vec<Held>, line: &str) -> Answer {
-    let mut words = line.split_whitespace();
-    let Some(name) = words.next() else {
-        return Answer::NoCall;
-    };
-    if name == "load" {
-        return match words.next() {
-            Some(word) => load(heap, sheet, word),
-            None => Answer::NoCall,
-        };
-    }
-    match numbers(line) {
-        Some(n) => call(sheet, hand, name, n),
-        None => Answer::NoCall,
-    }
-}
-
-/// What a list of calls comes to: the answers and then the strip as text, the strip that the sheet is, and the certificate
-/// of the last accepted solve, no bytes where there was none.
-#[derive(Drop)]
-pub struct Drawing {
-    pub text: String,
-    pub strip: Vec<u8>,
-    pub certificate: Vec<u8>,
-}
-
-/// Performs the calls of all lines, and adds a line with its answer for each; an accepted solve has a second line, the
-/// certificate.
-fn perform_all(
-    heap: Global,
-    sheet: &mut Sheet,
-    hand: &mut Vec<Held>,
-    out: &mut String,
-    certificate: &mut Vec<u8>,
-    text: &str,
-) -> Result<(), AllocError> {
-    for line in text.lines() {
-        if line == "solve" {
-            solve(heap, sheet, out, certificate)?;
-        } else {
-            push_answer(out, perform(heap, sheet, hand, line))?;
+    /// The call of a line.
+    fn perform(&mut self, line: &str) -> Result<Answer, Failure> {
+        let words: Vec<&str> = line.split_whitespace().collect(self.heap)?;
+        match words.as_slice() {
+            ["count"] => Ok(Answer::Number(self.sheet.count())),
+            ["close"] => self.close(),
+            ["load", word, ..] => self.load(word),
+            ["shape", n, k] => self.shape(number(n)?, number(k)?),
+            ["take", s, p] => self.take(seat(s)?, number(p)?),
+            ["put", s, p] => self.put(seat(s)?, number(p)?),
+            ["let_go", s, p] => self.let_go(seat(s)?, number(p)?),
+            [edit, s, p, x] => self.change(edit, seat(s)?, number(p)?, number(x)?),
+            _ => Err(Failure::NoCall),
         }
     }
-    Ok(())
-}
 
-/// The strip that the sheet is.
-fn strip_of(heap: Global, sheet: &Sheet) -> Result<Vec<u8>, AllocError> {
-    let mut bytes = vec![in heap; 0u8; LONGEST]?;
-    let _ = sheet.write(bytes.as_mut_slice());
-    let n = number_at(bytes.as_slice(), 2);
-    bytes.truncate(38 * n as usize + 10);
-    Ok(bytes)
-}
-
-/// Performs a list of calls on a blank sheet. Rows that are held still at the end are let go.
-pub(crate) fn drawn(rt: &HostRuntime, text: &str) -> Result<Drawing, AllocError> {
-    let heap = rt.alloc();
-    let mut sheet = Sheet::new(heap)?;
-    let mut out = String::new(heap);
-    let mut certificate = Vec::new(heap);
-    let mut hand = Vec::new(heap);
-    let performed = perform_all(
-        heap,
-        &mut sheet,
-        &mut hand,
-        &mut out,
-        &mut certificate,
-        text,
-    );
-    let_all_go(&mut sheet, hand);
-    performed?;
-    let strip = strip_of(heap, &sheet)?;
-    push_hex(&mut out, strip.as_slice(), strip.len())?;
-    Ok(Drawing {
-        text: out,
-        strip,
-        certificate,
-    })
+    /// Performs the calls of all lines, and adds a line with its answer for each; an accepted solve has a second line, the
+    /// certificate.
+    pub(crate) fn perform_all(&mut self, calls: &str) -> Result<(), AllocError> {
+        for line in calls.lines() {
+            if line == "solve" {
+                self.solve()?;
+                continue;
+            }
+            match self.perform(line) {
+                Ok(answer) => writeln!(self.text, "{answer}")?,
+                Err(failure) => writeln!(self.text, "{failure}")?,
+            }
+        }
+        Ok(())
+    }
 }

@@ -1,29 +1,22 @@
-/// The numbers that stand on a line after its first word, at most three.
-#[derive(Clone, Copy)]
-pub struct Given {
-    pub count: usize,
-    pub values: [u16; 3],
+use crate::answers::Failure;
+use arena::Owner;
+
+/// The number below 65,536 that a word is.
+pub(crate) fn number(word: &str) -> Result<u16, Failure> {
+    word.parse::<u16>().or(Err(Failure::NoCall))
 }
 
-/// The numbers on a line after its first word; none where a word is no number below 65,536, or where there are more than
-/// three.
-pub(crate) fn numbers(line: &str) -> Option<Given> {
-    let mut count = 0;
-    let mut values = [0; 3];
-    for word in line.split_whitespace().skip(1) {
-        let Ok(n) = word.parse::<u16>() else {
-            return None;
-        };
-        if count >= 3 {
-            return None;
-        }
-        values[count] = n;
-        count += 1;
+/// The seat that a word names. No seat is above 255, so that a larger number serves as one that is refused.
+pub(crate) fn seat(word: &str) -> Result<u8, Failure> {
+    let n = number(word)?;
+    Ok(u8::try_from(n).unwrap_or(u8::MAX))
+}
+
+/// The owner that a number names: 0 the controller, 1 the traffic.
+pub(crate) fn owner(n: u16) -> Result<Owner, Failure> {
+    match n {
+        0 => Ok(Owner::Controller),
+        1 => Ok(Owner::Traffic),
+        _ => Err(Failure::NoCall),
     }
-    Some(Given { count, values })
-}
-
-/// The seat that a number names. No seat is above 255, so that a larger number serves as one that is refused.
-pub(crate) fn seat(n: u16) -> u8 {
-    if n > 255 { 255 } else { n as u8 }
 }

@@ -1,20 +1,19 @@
 #![tactic(auto)]
 
-use anyhow::anyhow;
-use control::{CheckFault, Event, Runner, check};
+use anyhow::bail;
+use arena::Refusal;
+use control::{Event, Runner, check};
 use std::{env, fs};
-use strip::{OpenFault, OpenedStrip, open};
+use strip::{OpenedStrip, open};
 
 /// The event that a line names.
 fn event_of(line: &str) -> Option<Event> {
     if line == "go" {
         return Some(Event::Go);
     }
-    let (word, rest) = line.split_once(' ')?;
-    let number = rest.parse::<u16>().ok()?;
-    match word {
-        "start" => Some(Event::Start(number)),
-        "moved" => Some(Event::Moved(number)),
+    match line.split_once(' ')? {
+        ("start", p) => Some(Event::Start(p.parse::<u16>().ok()?)),
+        ("moved", q) => Some(Event::Moved(q.parse::<u16>().ok()?)),
         _ => None,
     }
 }
@@ -32,67 +31,35 @@ fn follow(
     };
     match runner.on(certificate, event) {
         Ok((position, aim)) => println!(rt; "{line}: at {position} aim {aim}")?,
-        Err(fault) => {
-            let number = fault.number();
-            println!(rt; "{line}: refused {number}")?;
-        }
+        Err(fault) => println!(rt; "{line}: {}", Refusal::from(fault))?,
     }
     Ok(())
-}
-
-/// Checks the certificate, and prints the answer; whether it was accepted.
-fn accepts(rt: &HostRuntime, arena: &OpenedStrip, certificate: &[u8]) -> anyhow::Result<bool> {
-    match check(arena, certificate) {
-        Ok(c) => {
-            println!(rt; "certificate accepted {c}")?;
-            Ok(true)
-        }
-        Err(fault) => {
-            let number = fault.number();
-            match fault {
-                CheckFault::Clause { clause, position } => println!(rt;
-                    "certificate refused {number} {clause} {position}"
-                )?,
-                _ => println!(rt; "certificate refused {number}")?,
-            }
-            Ok(false)
-        }
-    }
 }
 
 /// Opens the strip and checks the certificate that the arguments name, then runs the events of standard input, a line each:
 /// `start P`, `go` and `moved Q`.
-fn run(rt: &HostRuntime) -> anyhow::Result<()> {
-    let mut words = env::args(rt)?;
-    let _ = words.next();
+fn main(rt: HostRuntime) -> anyhow::Result<()> {
+    let mut words = env::args(&rt)?.skip(1);
     let (Some(strip), Some(table)) = (words.next(), words.next()) else {
-        return Err(anyhow!("usage: drive STRIP CERTIFICATE"));
+        bail!("usage: drive STRIP CERTIFICATE");
     };
-    let bytes = fs::read(rt, strip)?;
-    let certificate = fs::read(rt, table)?;
+    let bytes = fs::read(&rt, strip)?;
+    let certificate = fs::read(&rt, table)?;
     let mut arena = OpenedStrip::empty();
-    match open(bytes.as_slice(), &mut arena) {
-        Ok(()) => {}
-        Err(OpenFault::Strip(fault)) => {
-            let place = fault.place;
-            println!(rt; "strip refused 13 {place}")?;
-            return Ok(());
-        }
-        Err(OpenFault::NoMoves(position)) => {
-            println!(rt; "strip refused 11 {position}")?;
-            return Ok(());
-        }
-    }
-    if !accepts(rt, &arena, certificate.as_slice())? {
+    if let Err(fault) = open(&bytes, &mut arena) {
+        println!(rt; "strip {}", Refusal::from(fault))?;
         return Ok(());
+    }
+    match check(&arena, &certificate) {
+        Ok(c) => println!(rt; "certificate accepted {c}")?,
+        Err(fault) => {
+            println!(rt; "certificate {}", Refusal::from(fault))?;
+            return Ok(());
+        }
     }
     let mut runner = Runner::new(arena);
     for line in rt.lines(rt.alloc()) {
-        follow(rt, &mut runner, certificate.as_slice(), line?.as_str())?;
+        follow(&rt, &mut runner, &certificate, line?.as_str())?;
     }
     Ok(())
-}
-
-fn main(rt: HostRuntime) -> anyhow::Result<()> {
-    run(&rt)
 }

@@ -6,14 +6,10 @@ use std::io::Read;
 const LIMIT: u64 = 38 * 512 + 10 + 1;
 
 /// Reads a strip from standard input and prints the plant that it stores, or the refusal.
-fn run(rt: &HostRuntime) -> anyhow::Result<()> {
+fn main(rt: HostRuntime) -> anyhow::Result<()> {
     let mut bytes = Vec::new(rt.alloc());
     rt.stdin().take(LIMIT).read_to_end(&mut bytes)?;
-    let text = planner::answer(rt.alloc(), bytes.as_slice())?;
+    let text = planner::answer(rt.alloc(), &bytes)?;
     rt.print(text)?;
     Ok(())
-}
-
-fn main(rt: HostRuntime) -> anyhow::Result<()> {
-    run(&rt)
 }

@@ -17,19 +17,19 @@ same_map : {X : Type 0} (f g : ℕ → X) (i c : ℕ) → ((j : ℕ) → i ≤ j
 same_map f g i zero h = refl
 same_map f g i (suc c) h =
     let first = h i (omega arith) (omega arith) in
-    let rest = same_map f g (suc i) c (λ j a b. h j (omega arith) (omega arith)) in
+    let rest = same_map f g (i + 1) c (λ j a b. h j (omega arith) (omega arith)) in
     cc
 
 same_concat : {X : Type 0} (f g : ℕ → List X) (i c : ℕ) → ((j : ℕ) → i ≤ j → j < i + c → f j ≡ g j) → concat f (from i c) ≡ concat g (from i c)
 same_concat f g i zero h = refl
 same_concat f g i (suc c) h =
     let first = h i (omega arith) (omega arith) in
-    let rest = same_concat f g (suc i) c (λ j a b. h j (omega arith) (omega arith)) in
+    let rest = same_concat f g (i + 1) c (λ j a b. h j (omega arith) (omega arith)) in
     cc
 
 all_map : {X : Type 0} (P : X → Type 0) (f : ℕ → X) (i c : ℕ) → ((j : ℕ) → i ≤ j → j < i + c → P (f j)) → AllByRecursion P (map f (from i c))
 all_map P f i zero h = tt
-all_map P f i (suc c) h = (h i (omega arith) (omega arith), all_map P f (suc i) c (λ j a b. h j (omega arith) (omega arith)))
+all_map P f i (suc c) h = (h i (omega arith) (omega arith), all_map P f (i + 1) c (λ j a b. h j (omega arith) (omega arith)))
 
 -- what is looked at after the head
 abbrev past_head : List ℕ → Option ℕ

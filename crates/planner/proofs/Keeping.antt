@@ -9,10 +9,11 @@ use Rattle.arena.specs.Sets.{all}
 use Rattle.arena.proofs.Basics.{not_refused, accepted_injective, require_accepted, require_none_accepted, least_none, get_or_all}
 use Rattle.row.specs.Rows as rows
 use Rattle.row.specs.Rows.{empty, meaning_of}
-use Rattle.row.specs.RowModel.{row_of, owner_number}
+use Rattle.row.specs.RowModel.{row_of}
+use Rattle.arena.specs.Owners.{owner_number}
 use Rattle.row.specs.declared.row.Row.{Row}
-use Rattle.row.specs.declared.row.Owner.{Owner}
-use Rattle.row.specs.declared.row.Owner.TheVariants.{Controller, Traffic}
+use Rattle.arena.specs.declared.owner.Owner.{Owner}
+use Rattle.arena.specs.declared.owner.Owner.TheVariants.{Controller, Traffic}
 use Rattle.row.proofs.Moves.{Rises, moves_rise}
 use Rattle.sheet.specs.Sheets.{Sheet, new, row_on, is_out, is_bare, out_to, lowest_out, lowest_bare, lent, stored, take_answer, put_answer, let_go_answer, arena_of, close_answer}
 use Rattle.sheet.specs.Succession.{Call, take, put, let_go, rows_out, asked, Event, events, next, sheet_after, last_put, lent_out}

@@ -2,6 +2,6 @@ pub mod Opened
 pub mod Closed
 pub mod Front
 pub mod Solved
-pub mod Refusing
+pub mod Answered
 pub mod Keeping
 pub mod Promised

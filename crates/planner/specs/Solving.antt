@@ -1,16 +1,14 @@
 -- Solve of what is to be opened or closed first: a strip, a sheet. Read after solve and the sheet's calls.
-use Rattle.std.specs.Prelude.{ℕ, List, [], Ok, Err, Result}
+use Rattle.std.specs.Prelude.{ℕ, List, Ok, Err, Result}
 use Rattle.arena.specs.Refusals.{Outcome, accepted, refused}
 use Rattle.arena.specs.Arena.{Meaning}
-use Rattle.solver.specs.Refused.{refusal}
+use Rattle.arena.specs.Told.{Same}
+use Rattle.arena.specs.declared.refusal.Refusal.{Refusal}
+use Rattle.solver.specs.Refused.{solve_refusal}
 use Rattle.solver.specs.Solve.{solve, bytes_after, work_after}
-use Rattle.strip.specs.Refusals.{open_refusal}
-use Rattle.sheet_faults.specs.Refusals.{close_refusal}
 use Rattle.sheet.specs.Sheets.{Sheet, close_answer}
-use Rattle.planner.specs.declared.solving.StripSolveFault.{StripSolveFault}
-use Rattle.planner.specs.declared.solving.StripSolveFault.TheVariants as strips
-use Rattle.planner.specs.declared.solving.SheetSolveFault.{SheetSolveFault}
-use Rattle.planner.specs.declared.solving.SheetSolveFault.TheVariants as sheets
+use Rattle.planner.specs.declared.solving.SolvingFault.{SolvingFault}
+use Rattle.planner.specs.declared.solving.SolvingFault.TheVariants.{Arena, Solve}
 
 -- solve the arena that a call has answered; where it was refused, so is solve
 abbrev pub solve_answered : Outcome Meaning → List ℕ → List ℕ → Outcome (ℕ × ℕ)
@@ -27,25 +25,20 @@ abbrev pub answered_work : Outcome Meaning → List ℕ → List ℕ → List �
 answered_work (accepted m) bytes work = work_after m bytes work
 answered_work (refused number names) bytes work = work
 
--- the refusals of solve of a strip: those of open, then those of solve
-abbrev pub strip_solve_refusal : StripSolveFault → Outcome (ℕ × ℕ)
-strip_solve_refusal (strips.Open fault) = open_refusal fault
-strip_solve_refusal (strips.Solve fault) = refused (refusal fault) []
+-- what solving answers, as an outcome: the refusals of the call that comes first, by its own table, and then those of solve
+module _ {E : Type 0} (refusal_of : E → Outcome (ℕ × ℕ)) where
+  abbrev pub solving_refusal : SolvingFault E → Outcome (ℕ × ℕ)
+  solving_refusal (Arena fault) = refusal_of fault
+  solving_refusal (Solve fault) = solve_refusal fault
 
--- what solve of a strip answers, as an outcome
-abbrev pub strip_solve_outcome : Result (ℕ × ℕ) StripSolveFault → Outcome (ℕ × ℕ)
-strip_solve_outcome (Ok answer) = accepted answer
-strip_solve_outcome (Err fault) = strip_solve_refusal fault
+  abbrev pub solving_outcome : Result (ℕ × ℕ) (SolvingFault E) → Outcome (ℕ × ℕ)
+  solving_outcome (Ok answer) = accepted answer
+  solving_outcome (Err fault) = solving_refusal fault
 
--- the refusals of solve on a sheet: those of close, then those of solve
-abbrev pub sheet_solve_refusal : SheetSolveFault → Outcome (ℕ × ℕ)
-sheet_solve_refusal (sheets.Close fault) = close_refusal fault
-sheet_solve_refusal (sheets.Solve fault) = refused (refusal fault) []
-
--- what solve on a sheet answers, as an outcome
-abbrev pub sheet_solve_outcome : Result (ℕ × ℕ) SheetSolveFault → Outcome (ℕ × ℕ)
-sheet_solve_outcome (Ok answer) = accepted answer
-sheet_solve_outcome (Err fault) = sheet_solve_refusal fault
+-- what a fault of solving turns into, by what the fault of the call that comes first does
+abbrev pub TurnsInto : {E : Type 0} → (E → Refusal → Type 0) → SolvingFault E → Refusal → Type 0
+TurnsInto converts (Arena fault) r = converts fault r
+TurnsInto converts (Solve fault) r = Same r (solve_refusal fault)
 
 module _ (s : Sheet) (bytes work : List ℕ) where
   -- solve on a sheet: close it, solve the arena with the two memories lent, and open it again

@@ -11,5 +11,5 @@ pub use faults::PlanFault;
 pub use plants::plants_stand;
 pub use program::{answer, describe};
 pub use sheets::solve_sheet;
-pub use solving::{SheetSolveFault, StripSolveFault};
+pub use solving::SolvingFault;
 pub use strips::solve_strip;

@@ -1,57 +1,52 @@
-ghost use Rattle.planner.specs.declared.solving.SheetSolveFault.TheVariants as sheets;
-ghost use Rattle.planner.specs.declared.solving.StripSolveFault.TheVariants as strips;
+ghost use Rattle.planner.specs.declared.solving.SolvingFault.TheVariants.{Arena, Solve};
+ghost use Rattle.planner.specs.Solving.{TurnsInto};
 ghost use Rattle.std.specs.Prelude.{◌≡◌};
 
+use arena::Refusal;
 use sheet_faults::CloseFault;
 use solver::SolveFault;
 use strip::OpenFault;
 
-/// Why a strip is not solved.
-#[derive(Clone, Copy)]
-pub enum StripSolveFault {
-    /// It does not open.
-    Open(OpenFault),
+/// Why a strip or a sheet is not solved, which has to be an arena first.
+#[derive(Clone, Copy, Debug, PartialEq, Eq)]
+pub enum SolvingFault<E> {
+    /// It is no arena: it does not open, or close.
+    Arena(E),
     /// Solve turns the memories down.
     Solve(SolveFault),
 }
 
-impl From<OpenFault> for StripSolveFault {
-    ghost from_gives = { λ e r. r ≡ strips.Open e };
+impl From<OpenFault> for SolvingFault<OpenFault> {
+    ghost from_gives = { λ e r. r ≡ Arena e };
 
-    fn from(e: OpenFault) -> StripSolveFault {
-        StripSolveFault::Open(e)
+    fn from(e: OpenFault) -> SolvingFault<OpenFault> {
+        SolvingFault::Arena(e)
     }
 }
 
-impl From<SolveFault> for StripSolveFault {
-    ghost from_gives = { λ e r. r ≡ strips.Solve e };
+impl From<CloseFault> for SolvingFault<CloseFault> {
+    ghost from_gives = { λ e r. r ≡ Arena e };
 
-    fn from(e: SolveFault) -> StripSolveFault {
-        StripSolveFault::Solve(e)
+    fn from(e: CloseFault) -> SolvingFault<CloseFault> {
+        SolvingFault::Arena(e)
     }
 }
 
-/// Why a sheet is not solved.
-#[derive(Clone, Copy)]
-pub enum SheetSolveFault {
-    /// It does not close.
-    Close(CloseFault),
-    /// Solve turns the memories down.
-    Solve(SolveFault),
-}
+impl<E> From<SolveFault> for SolvingFault<E> {
+    ghost from_gives = { λ e r. r ≡ Solve e };
 
-impl From<CloseFault> for SheetSolveFault {
-    ghost from_gives = { λ e r. r ≡ sheets.Close e };
-
-    fn from(e: CloseFault) -> SheetSolveFault {
-        SheetSolveFault::Close(e)
+    fn from(e: SolveFault) -> SolvingFault<E> {
+        SolvingFault::Solve(e)
     }
 }
 
-impl From<SolveFault> for SheetSolveFault {
-    ghost from_gives = { λ e r. r ≡ sheets.Solve e };
+impl<E: Into<Refusal>> From<SolvingFault<E>> for Refusal {
+    ghost from_gives = { TurnsInto E.converts };
 
-    fn from(e: SolveFault) -> SheetSolveFault {
-        SheetSolveFault::Solve(e)
+    fn from(e: SolvingFault<E>) -> Refusal {
+        match e {
+            SolvingFault::Arena(fault) => fault.into(),
+            SolvingFault::Solve(fault) => fault.into(),
+        }
     }
 }

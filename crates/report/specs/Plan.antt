@@ -1,9 +1,9 @@
--- The text of a plan: what a certificate says of each position. Read after the texts.
+-- The text of a plan: what a certificate says of each position. Read after the refusals as text.
 use Rattle.std.specs.Prelude.{ℕ, cond, List, [], ◌∷◌, ◌++◌, codes, decimal, ◌==◌}
 use Rattle.arena.specs.Arena.{Meaning}
 use Rattle.arena.specs.Certificate.{no_move, side_of, goal_of, stage_of, approach_of, move_of, rank_of, goal_move_of}
 use Rattle.arena.specs.Sets.{upto, concat}
-use Rattle.report.specs.Text.{fields}
+use Rattle.arena.specs.Told.{fields}
 
 -- a move; `-` for none
 abbrev pub move_text : ℕ → List ℕ
@@ -36,4 +36,4 @@ module _ (m : Meaning) (bs : List ℕ) where
 
   -- a plan: the numbers of positions and goals, c and s, then a line for each position
   abbrev pub plan_text : ℕ → ℕ → List ℕ
-  plan_text c s = codes "plan" ++ fields (m.size ∷ m.goals ∷ c ∷ s ∷ []) ++ concat decision_text (upto m.size)
+  plan_text c s = codes "plan" ++ fields (m.size ∷ m.goals ∷ c ∷ s ∷ []) ++ codes "\n" ++ concat decision_text (upto m.size)

@@ -1,3 +1,3 @@
 pub mod Moves
-pub mod MarkRoom
+pub mod Bits
 pub mod RecordBytes

@@ -1,18 +1,27 @@
--- Moves in rising order: where one stands or would stand, and what setting one in or striking one out leaves.
-use Rattle.std.proofs.Common.{◌≡◌, ℕ, zero, suc, ◌+◌, ◌-◌, ◌<◌, ◌≤◌, true, false, not, eqb, ltb, ◌⊎◌, List, [], ◌∷◌, length, get_or, take, sym, refl, ap, ◌∙◌, subst, inl, inr, arith}
+-- Moves in rising order: what a search finds among them, and what setting one in or striking one out leaves.
+use Rattle.std.proofs.Common.{◌≡◌, ℕ, zero, suc, ◌+◌, ◌-◌, ◌<◌, ◌≤◌, true, false, not, eqb, ltb, ◌⊎◌, List, [], ◌∷◌, ◌++◌, length, get_or, take, replicate, sym, refl, ap, ◌∙◌, subst, inl, inr, arith, append_assoc, length-append, nat_cmp, Ok, Err}
 use Rattle.std.specs.List.{insert as inserted, remove}
-use Rattle.std.proofs.lemmas.Bool.{cases_Bool, cases_order, cases_lt, both_ways, lt-ltb, le-ltb, eq-eqb, ne_eqb, cond-true, cond-false, or_parts}
-use Rattle.std.proofs.lemmas.List.{ext_get_or, get_or_past, get_or-take, length-take-le}
-use Rattle.std.proofs.lemmas.List.Edits.{length-insert, get_or-insert_below, get_or-insert_at, get_or-insert_above, length-remove, get_or-remove_below, get_or-remove_above}
+use Rattle.std.specs.List.Sorted.{IsBinarySearchResult}
+use Rattle.std.proofs.lemmas.List.Sorted.{searched}
+use Rattle.std.proofs.lemmas.Bool.{cases_Bool, cases_order, cases_lt, lt-ltb, le-ltb, eq-eqb, ne_eqb, cond-true, cond-false, or_parts}
+use Rattle.std.proofs.lemmas.List.{ext_get_or, get_or_append_left, get_or-append_right, get_or_past, get_or-replicate, get_or-take, length-replicate, length-take-le, replicate_more, take_at}
+use Rattle.std.proofs.lemmas.List.Edits.{length-insert, get_or-insert_below, get_or-insert_at, get_or-insert_above, insert-append_left, length-remove, get_or-remove_below, get_or-remove_above, remove-append_left}
 use Rattle.arena.specs.Sets.{elem, keep}
 use Rattle.arena.proofs.Basics.{In, in_at, in_head, in_tail}
 use Rattle.row.specs.Drafts.{insert}
-use Rattle.row.specs.RowModel.{Placed}
 use Rattle.row.specs.declared.row.Row.{Row}
 
 -- a list rises
 abbrev pub Rises : List ℕ → Type 0
 Rises xs = (i j : ℕ) → i < j → j < length xs → get_or xs i 0 < get_or xs j 0
+
+-- zeros, also past their end
+zeros : (k j : ℕ) → get_or {A = ℕ} (replicate k 0) j 0 ≡ 0
+zeros k j =
+    elim (cases_lt j k) [
+      | inl l ↦ get_or-replicate k j 0 0 l
+      | inr l ↦ get_or_past (replicate k 0) j 0 (omega (arith, length-replicate {A = ℕ} k 0))
+    ]
 
 -- the moves of a row, as a list
 module _ (r : Row) where
@@ -22,14 +31,6 @@ module _ (r : Row) where
   pub moves_count : length listed ≡ r.count
   moves_count = length-take-le r.count r.moves (omega (arith, r.wide, r.few))
 
-  -- an unused move is zero, as a place past the list is
-  pub move_there : (j : ℕ) → get_or listed j 0 ≡ get_or r.moves j 0
-  move_there j =
-      elim (cases_lt j r.count) [
-        | inl l ↦ get_or-take r.count r.moves j 0 l
-        | inr l ↦ get_or_past listed j 0 (omega (arith, moves_count)) ∙ sym (r.unused j l)
-      ]
-
   pub moves_rise : Rises listed
   moves_rise i j l m =
       let inside : j < r.count = omega (arith, moves_count) in
@@ -38,51 +39,50 @@ module _ (r : Row) where
       let b : get_or listed j 0 ≡ get_or r.moves j 0 = get_or-take r.count r.moves j 0 inside in
       omega arith
 
+  -- the sixteen are the moves and then zeros
+  pub moves_then_zeros : r.moves ≡ listed ++ replicate (16 - r.count) 0
+  moves_then_zeros =
+      let zs : List ℕ = replicate (16 - r.count) 0 in
+      let long : length r.moves ≡ length (listed ++ zs) = omega (arith, r.wide, r.few, moves_count, length-append listed zs, length-replicate {A = ℕ} (16 - r.count) 0) in
+      ext_get_or 0 r.moves (listed ++ zs) long
+      (λ j _.
+      elim (cases_lt j r.count) [
+        | inl l ↦ let inside : j < length listed = omega (arith, moves_count) in sym (get_or_append_left listed zs 0 j inside ∙ get_or-take r.count r.moves j 0 l)
+        | inr l ↦ let past : length listed ≤ j = omega (arith, moves_count) in
+            r.unused j l ∙ sym (get_or-append_right listed zs (length listed) j 0 refl past ∙ zeros (16 - r.count) (j - length listed))
+      ])
+
 -- an element of a list, by its place
 in_there : (xs : List ℕ) (j : ℕ) → j < length xs → In (get_or xs j 0) xs
 in_there [] j l = absurd (omega arith)
 in_there (x ∷ xs) zero l = in_head x xs
 in_there (x ∷ xs) (suc j) l = in_tail (get_or xs j 0) x xs (in_there xs j (omega arith))
 
-module _ (xs : List ℕ) (q at : ℕ) (up : Rises xs) (h : Placed xs q at) where
-  pub there : at < length xs → get_or xs at 0 ≡ q → elem q xs ≡ true
-  there l e = let i : In (get_or xs at 0) xs = in_there xs at l in ap (λ x. elem x xs) (sym e) ∙ i
+found : (xs : List ℕ) (q at : ℕ) → at < length xs → get_or xs at 0 ≡ q → elem q xs ≡ true
+found xs q at l e = let i : In (get_or xs at 0) xs = in_there xs at l in ap (λ x. elem x xs) (sym e) ∙ i
 
-  pub absent : (at < length xs → get_or xs at 0 ≡ q → ⊥) → elem q xs ≡ false
-  absent other = elim (cases_Bool (elem q xs)) [ inl e ↦ absurd (never (in_at q xs e)) | inr e ↦ e ]
-    where
-      never : (j : ℕ) × (j < length xs) × (get_or xs j 0 ≡ q) → ⊥
-      never w =
-          let j : ℕ = w.0 in
-          let inside : j < length xs = w.1 in
-          let same : get_or xs j 0 ≡ q = w.2 in
-          elim (cases_order j at) [
-            | inl e ↦ let l : at < length xs = omega arith in let s : get_or xs at 0 ≡ q = ap (λ i. get_or xs i 0) (sym e) ∙ same in other l s
-            | inr o ↦ elim o [
-              | inl l ↦ let low : get_or xs j 0 < q = h.below j l in omega arith
-              | inr l ↦ let high : q ≤ get_or xs at 0 = h.above (omega arith) in let r : get_or xs at 0 < get_or xs j 0 = up at j l inside in omega arith
-            ]
-          ]
+-- where a move stands that a search has found
+pub record There (xs : List ℕ) (q at : ℕ) : Type 0 where
+  pub inside : at < length xs
+  pub here : get_or xs at 0 ≡ q
+  pub known : elem q xs ≡ true
 
-  -- a move that is not there is above the place
-  pub higher : elem q xs ≡ false → at < length xs → q < get_or xs at 0
-  higher e l =
-      let high : q ≤ get_or xs at 0 = h.above l in
-      elim (cases_order q (get_or xs at 0)) [
-        | inl s ↦ absurd (both_ways (elem q xs) e (there l (sym s)))
-        | inr o ↦ elim o [ inl s ↦ s | inr s ↦ absurd (omega arith) ]
-      ]
+-- where a move would stand that a search has not found
+pub record Gap (xs : List ℕ) (q at : ℕ) : Type 0 where
+  pub within : at ≤ length xs
+  pub below : (k : ℕ) → k < at → get_or xs k 0 < q
+  pub above : (k : ℕ) → at ≤ k → k < length xs → q < get_or xs k 0
 
-  -- a move that is there stands at the place
-  pub stands : elem q xs ≡ true → (at < length xs) × (get_or xs at 0 ≡ q)
-  stands e =
-      elim (cases_lt at (length xs)) [
-        | inl l ↦ elim (cases_order (get_or xs at 0) q) [
-          | inl s ↦ (l, s)
-          | inr o ↦ absurd (both_ways (elem q xs) (absent (λ _ s. elim o [ inl a ↦ omega arith | inr a ↦ omega arith ])) e)
+-- it is not there
+pub absent : (xs : List ℕ) (q at : ℕ) → Gap xs q at → elem q xs ≡ false
+absent xs q at h = elim (cases_Bool (elem q xs)) [ inl e ↦ absurd (never (in_at q xs e)) | inr e ↦ e ]
+  where
+    never : (j : ℕ) × (j < length xs) × (get_or xs j 0 ≡ q) → ⊥
+    never w =
+        elim (cases_lt w.0 at) [
+          | inl l ↦ let low : get_or xs w.0 0 < q = h.below w.0 l in omega (arith, w.2)
+          | inr l ↦ let high : q < get_or xs w.0 0 = h.above w.0 l w.1 in omega (arith, w.2)
         ]
-        | inr l ↦ absurd (both_ways (elem q xs) (absent (λ m _. omega arith)) e)
-      ]
 
 -- setting in before the first larger element is setting in at the place
 insert_placed : (q at : ℕ) (xs : List ℕ) → at ≤ length xs → ((j : ℕ) → j < at → get_or xs j 0 < q) → (at < length xs → q < get_or xs at 0) → insert q xs ≡ inserted xs at q
@@ -124,76 +124,34 @@ keep_there q (suc at) (x ∷ xs) up l e =
     cond-true (not (eqb x q)) (x ∷ keep (λ y. not (eqb y q)) xs) (keep (λ y. not (eqb y q)) xs) (ap not (ne_eqb x q (λ s. omega arith)))
     ∙ ap (λ ys. x ∷ ys) (keep_there q at xs (tail_rises x xs up) (omega arith) e)
 
--- the sixteen moves of an array are a list, and then zeros
-module _ (m ys : List ℕ) (wide : length m ≡ 16) (few : length ys ≤ 16) (same : (j : ℕ) → j < 16 → get_or m j 0 ≡ get_or ys j 0) where
-  pub filled : take (length ys) m ≡ ys
-  filled =
-      let long : length (take (length ys) m) ≡ length ys = length-take-le (length ys) m (omega arith) in
-      ext_get_or 0 (take (length ys) m) ys long
-      (λ j l. let inside : j < length ys = omega arith in get_or-take (length ys) m j 0 inside ∙ same j (omega arith))
-
-  pub filled_rest : (j : ℕ) → length ys ≤ j → get_or m j 0 ≡ 0
-  filled_rest j l =
-      elim (cases_lt j 16) [
-        | inl s ↦ same j s ∙ get_or_past ys j 0 l
-        | inr s ↦ get_or_past m j 0 (omega arith)
-      ]
-
-  pub filled_rises : Rises ys → (i j : ℕ) → i < j → j < length ys → get_or m i 0 < get_or m j 0
-  filled_rises up i j l k =
-      let a : get_or m i 0 ≡ get_or ys i 0 = same i (omega arith) in
-      let b : get_or m j 0 ≡ get_or ys j 0 = same j (omega arith) in
-      let s : get_or ys i 0 < get_or ys j 0 = up i j l k in
-      omega arith
-
-module _ (xs : List ℕ) (q at : ℕ) (up : Rises xs) (h : Placed xs q at) (new : elem q xs ≡ false) where
+module _ (xs : List ℕ) (q at : ℕ) (up : Rises xs) (h : Gap xs q at) where
   pub insert_is : insert q xs ≡ inserted xs at q
-  insert_is = insert_placed q at xs h.within h.below (higher xs q at up h new)
+  insert_is = insert_placed q at xs h.within h.below (λ l. h.above at (omega arith) l)
 
-  abbrev ys : List ℕ
-  ys = inserted xs at q
+  abbrev set_in : List ℕ
+  set_in = inserted xs at q
 
   -- what stands at a place once q is set in
-  value : (k : ℕ) → ((k < at) × (get_or ys k 0 ≡ get_or xs k 0)) ⊎ (((k ≡ at) × (get_or ys k 0 ≡ q)) ⊎ ((at < k) × (get_or ys k 0 ≡ get_or xs (k - 1) 0)))
+  value : (k : ℕ) → ((k < at) × (get_or set_in k 0 ≡ get_or xs k 0)) ⊎ (((k ≡ at) × (get_or set_in k 0 ≡ q)) ⊎ ((at < k) × (get_or set_in k 0 ≡ get_or xs (k - 1) 0)))
   value k =
       let within : at ≤ length xs = h.within in
       elim (cases_order k at) [
-        | inl e ↦ inr (inl (e, ap (λ i. get_or ys i 0) e ∙ get_or-insert_at xs at q 0 within))
+        | inl e ↦ inr (inl (e, ap (λ i. get_or set_in i 0) e ∙ get_or-insert_at xs at q 0 within))
         | inr o ↦ elim o [
           | inl l ↦ inl (l, get_or-insert_below xs at q 0 k l within)
-          | inr l ↦ let e : k ≡ k - 1 + 1 = omega arith in inr (inr (l, ap (λ i. get_or ys i 0) e ∙ get_or-insert_above xs at q 0 (k - 1) (omega arith) within))
+          | inr l ↦ let e : k ≡ k - 1 + 1 = omega arith in inr (inr (l, ap (λ i. get_or set_in i 0) e ∙ get_or-insert_above xs at q 0 (k - 1) (omega arith) within))
         ]
       ]
 
-  pub insert_rises : Rises ys
+  pub insert_rises : Rises set_in
   insert_rises i j l m =
-      let within : at ≤ length xs = h.within in
-      let long : length ys ≡ length xs + 1 = length-insert xs at q within in
-      elim (value i) [
-        | inl a ↦ let low : get_or xs i 0 < q = h.below i a.0 in
-            elim (value j) [
-              | inl b ↦ let s : get_or xs i 0 < get_or xs j 0 = up i j l (omega (arith, b.0)) in omega (arith, a.1, b.1)
-              | inr w ↦ elim w [
-                | inl b ↦ omega (arith, a.1, b.1)
-                | inr b ↦ let s : get_or xs i 0 < get_or xs (j - 1) 0 = up i (j - 1) (omega (arith, a.0, b.0)) (omega (arith, b.0)) in omega (arith, a.1, b.1)
-              ]
-            ]
-        | inr v ↦ elim (value j) [
-          | inl b ↦ absurd (elim v [ inl a ↦ omega (arith, a.0, b.0) | inr a ↦ omega (arith, a.0, b.0) ])
-          | inr w ↦ elim w [
-            | inl b ↦ absurd (elim v [ inl a ↦ omega (arith, a.0, b.0) | inr a ↦ omega (arith, a.0, b.0) ])
-            | inr b ↦ elim v [
-              | inl a ↦
-                  let first : q < get_or xs at 0 = higher xs q at up h new (omega (arith, b.0)) in
-                  elim (cases_lt at (j - 1)) [
-                    | inl s ↦ let t : get_or xs at 0 < get_or xs (j - 1) 0 = up at (j - 1) s (omega (arith, b.0)) in omega (arith, a.1, b.1)
-                    | inr s ↦ let e : j - 1 ≡ at = omega (arith, b.0) in omega (arith, a.1, b.1, ap (λ x. get_or xs x 0) e)
-                  ]
-              | inr a ↦ let s : get_or xs (i - 1) 0 < get_or xs (j - 1) 0 = up (i - 1) (j - 1) (omega (arith, a.0)) (omega (arith, b.0)) in omega (arith, a.1, b.1)
-            ]
-          ]
-        ]
-      ]
+      let long : length set_in ≡ length xs + 1 = length-insert xs at q h.within in
+      let low : i < at → get_or xs i 0 < q = h.below i in
+      let high : at ≤ j - 1 → j - 1 < length xs → q < get_or xs (j - 1) 0 = h.above (j - 1) in
+      let both_below : j < length xs → get_or xs i 0 < get_or xs j 0 = λ k. up i j l k in
+      let across : i < j - 1 → j - 1 < length xs → get_or xs i 0 < get_or xs (j - 1) 0 = λ k n. up i (j - 1) k n in
+      let both_above : i - 1 < j - 1 → j - 1 < length xs → get_or xs (i - 1) 0 < get_or xs (j - 1) 0 = λ k n. up (i - 1) (j - 1) k n in
+      grind (arith, value i, value j)
 
 module _ (xs : List ℕ) (q : ℕ) where
   pub strike_none : elem q xs ≡ false → keep (λ x. not (eqb x q)) xs ≡ xs
@@ -213,57 +171,85 @@ module _ (xs : List ℕ) (q : ℕ) where
     pub strike_rises : Rises (remove xs at)
     strike_rises i j s m =
         let long : length (remove xs at) + 1 ≡ length xs = length-remove xs at l in
-        elim (value_left i) [
-          | inl a ↦ elim (value_left j) [
-            | inl b ↦ let t : get_or xs i 0 < get_or xs j 0 = up i j s (omega arith) in omega (arith, a.1, b.1)
-            | inr b ↦ let t : get_or xs i 0 < get_or xs (j + 1) 0 = up i (j + 1) (omega arith) (omega arith) in omega (arith, a.1, b.1)
-          ]
-          | inr a ↦ elim (value_left j) [
-            | inl b ↦ absurd (omega (arith, a.0, b.0))
-            | inr b ↦ let t : get_or xs (i + 1) 0 < get_or xs (j + 1) 0 = up (i + 1) (j + 1) (omega arith) (omega arith) in omega (arith, a.1, b.1)
-          ]
-        ]
+        let both_below : get_or xs i 0 < get_or xs j 0 = up i j s (omega arith) in
+        let across : get_or xs i 0 < get_or xs (j + 1) 0 = up i (j + 1) (omega arith) (omega arith) in
+        let both_above : get_or xs (i + 1) 0 < get_or xs (j + 1) 0 = up (i + 1) (j + 1) (omega arith) (omega arith) in
+        grind (arith, value_left i, value_left j)
 
 -- a row's moves in an array of sixteen: so many are used and rise, and the others are zero
 pub record Drawn (m moves : List ℕ) (count : ℕ) : Type 0 where
+  pub wide : length m ≡ 16
   pub few : count ≤ 16
   pub rising : (i j : ℕ) → i < j → j < count → get_or m i 0 < get_or m j 0
   pub unused : (j : ℕ) → count ≤ j → get_or m j 0 ≡ 0
   pub listed_as : take count m ≡ moves
 
-drawn : (m ys : List ℕ) (count : ℕ) → count ≡ length ys → count ≤ 16 → length m ≡ 16 → Rises ys → ((j : ℕ) → j < 16 → get_or m j 0 ≡ get_or ys j 0) → Drawn m ys count
-drawn m ys count e few wide up same =
-    let small : length ys ≤ 16 = omega arith in
+drawn : (ys : List ℕ) (count k : ℕ) → count ≡ length ys → count + k ≡ 16 → Rises ys → Drawn (ys ++ replicate k 0) ys count
+drawn ys count k e all up =
     record {
-      few = few;
-      rising = λ i j l k. filled_rises m ys wide small same up i j l (omega arith);
-      unused = λ j l. filled_rest m ys wide small same j (omega arith);
-      listed_as = ap (λ n. take n m) e ∙ filled m ys wide small same;
+      wide = omega (arith, length-append ys (replicate k 0), length-replicate {A = ℕ} k 0);
+      few = omega arith;
+      rising = λ i j l m.
+          let a : get_or (ys ++ replicate k 0) i 0 ≡ get_or ys i 0 = get_or_append_left ys (replicate k 0) 0 i (omega arith) in
+          let b : get_or (ys ++ replicate k 0) j 0 ≡ get_or ys j 0 = get_or_append_left ys (replicate k 0) 0 j (omega arith) in
+          omega (arith, up i j l (omega arith));
+      unused = λ j l. get_or-append_right ys (replicate k 0) (length ys) j 0 refl (omega arith) ∙ zeros k (j - length ys);
+      listed_as = take_at ys (replicate k 0) count (sym e);
     }
 
--- the moves of a row with q set in, and with the one at a place struck out
-module _ (r : Row) (xs : List ℕ) (is : xs ≡ listed r) (q at : ℕ) (h : Placed xs q at) where
-  up : Rises xs
-  up = subst Rises (sym is) (moves_rise r)
+-- the moves of a row with one set in, and with one struck out
+module _ (r : Row) (q at : ℕ) where
+  abbrev zs : List ℕ
+  zs = replicate (16 - r.count) 0
 
-  long : length xs ≡ r.count
-  long = ap length is ∙ moves_count r
+  pub added : Gap (listed r) q at → r.count < 16 → (m : List ℕ) → m ≡ take (length r.moves) (inserted r.moves at q) → Drawn m (insert q (listed r)) (r.count + 1)
+  added h room m e =
+      let xs : List ℕ = listed r in
+      let ys : List ℕ = inserted xs at q in
+      let fewer : List ℕ = replicate (15 - r.count) 0 in
+      let more : length ys ≡ length xs + 1 = length-insert xs at q h.within in
+      let one : 15 - r.count + 1 ≡ 16 - r.count = omega arith in
+      let tail : fewer ++ 0 ∷ [] ≡ zs = replicate_more {X = ℕ} (15 - r.count) 0 ∙ ap (λ (k : ℕ). replicate {A = ℕ} k 0) one in
+      let whole : inserted r.moves at q ≡ (ys ++ fewer) ++ 0 ∷ [] =
+      ap (λ m. inserted m at q) (moves_then_zeros r) ∙ insert-append_left xs zs at q h.within ∙ ap (λ t. ys ++ t) (sym tail) ∙ sym (append_assoc ys fewer (0 ∷ [])) in
+      let long : length (ys ++ fewer) ≡ length r.moves = omega (arith, length-append ys fewer, length-replicate {A = ℕ} (15 - r.count) 0, moves_count r, r.wide) in
+      let is : ys ++ fewer ≡ m = sym (e ∙ ap (take (length r.moves)) whole ∙ take_at (ys ++ fewer) (0 ∷ []) (length r.moves) long) in
+      subst (λ zs. Drawn m zs (r.count + 1)) (sym (insert_is xs q at (moves_rise r) h))
+      (subst (λ m. Drawn m ys (r.count + 1)) is
+      (drawn ys (r.count + 1) (15 - r.count) (omega (arith, moves_count r)) (omega arith) (insert_rises xs q at (moves_rise r) h)))
 
-  pub added : (m : List ℕ) → length m ≡ 16 → elem q (listed r) ≡ false → length (listed r) < 16 → ((j : ℕ) → j < 16 → get_or m j 0 ≡ get_or (inserted xs at q) j 0) → Drawn m (insert q (listed r)) (r.count + 1)
-  added m wide new room same =
-      let fresh : elem q xs ≡ false = ap (elem q) is ∙ new in
-      let more : length (inserted xs at q) ≡ length xs + 1 = length-insert xs at q h.within in
-      let set-in : inserted xs at q ≡ insert q (listed r) = sym (insert_is xs q at up h fresh) ∙ ap (insert q) is in
-      subst (λ ys. Drawn m ys (r.count + 1)) set-in
-      (drawn m (inserted xs at q) (r.count + 1) (omega (arith, long)) (omega (arith, moves_count r)) wide (insert_rises xs q at up h fresh) same)
+  pub struck : There (listed r) q at → (m : List ℕ) → m ≡ remove r.moves at ++ 0 ∷ [] → Drawn m (keep (λ x. not (eqb x q)) (listed r)) (r.count - 1)
+  struck h m e =
+      let xs : List ℕ = listed r in
+      let ys : List ℕ = remove xs at in
+      let less : length ys + 1 ≡ length xs = length-remove xs at h.inside in
+      let k : ℕ = 16 - r.count + 1 in
+      let is : ys ++ replicate k 0 ≡ m =
+      sym
+      (e
+      ∙ ap (λ m. remove m at ++ 0 ∷ []) (moves_then_zeros r)
+      ∙ ap (λ m. m ++ 0 ∷ []) (remove-append_left xs zs at h.inside)
+      ∙ append_assoc ys zs (0 ∷ [])
+      ∙ ap (λ t. ys ++ t) (replicate_more (16 - r.count) 0)) in
+      subst (λ zs. Drawn m zs (r.count - 1)) (sym (strike_is xs q at (moves_rise r) h.inside h.here))
+      (subst (λ m. Drawn m ys (r.count - 1)) is
+      (drawn ys (r.count - 1) k (omega (arith, moves_count r)) (omega (arith, moves_count r, r.few)) (strike_rises xs q at (moves_rise r) h.inside)))
 
-  pub found : elem q (listed r) ≡ true → at < length xs
-  found e = (stands xs q at up h (ap (elem q) is ∙ e)).0
+-- what a binary search for a move of a row says: that it is there, or else where it would stand
+module _ (r : Row) (q at : ℕ) (xs : List ℕ) (is : xs ≡ listed r) where
+  not_falling : (i j : ℕ) → i ≤ j → j < length (listed r) → get_or (listed r) i 0 ≤ get_or (listed r) j 0
+  not_falling i j l m =
+      elim (cases_lt i j) [
+        | inl s ↦ omega (arith, moves_rise r i j s m)
+        | inr s ↦ let e : i ≡ j = omega arith in omega (arith, ap (λ k. get_or (listed r) k 0) e)
+      ]
 
-  pub struck : (m : List ℕ) → length m ≡ 16 → elem q (listed r) ≡ true → ((j : ℕ) → j < 16 → get_or m j 0 ≡ get_or (remove xs at) j 0) → Drawn m (keep (λ x. not (eqb x q)) (listed r)) (r.count - 1)
-  struck m wide e same =
-      let there : (at < length xs) × (get_or xs at 0 ≡ q) = stands xs q at up h (ap (elem q) is ∙ e) in
-      let less : length (remove xs at) + 1 ≡ length xs = length-remove xs at there.0 in
-      let out : remove xs at ≡ keep (λ x. not (eqb x q)) (listed r) = sym (strike_is xs q at up there.0 there.1) ∙ ap (keep (λ x. not (eqb x q))) is in
-      subst (λ ys. Drawn m ys (r.count - 1)) out
-      (drawn m (remove xs at) (r.count - 1) (omega (arith, long)) (omega (arith, r.few)) wide (strike_rises xs q at up there.0) same)
+  pub there : IsBinarySearchResult (λ y. nat_cmp y q) xs (Ok at) → There (listed r) q at
+  there h =
+      let s = searched (listed r) q (Ok at) (subst (λ ys. IsBinarySearchResult (λ y. nat_cmp y q) ys (Ok at)) is h) not_falling in
+      record { inside = s.0; here = s.1; known = found (listed r) q at s.0 s.1 }
+
+  pub gap : IsBinarySearchResult (λ y. nat_cmp y q) xs (Err at) → Gap (listed r) q at
+  gap h =
+      let s = searched (listed r) q (Err at) (subst (λ ys. IsBinarySearchResult (λ y. nat_cmp y q) ys (Err at)) is h) not_falling in
+      record { within = s.0; below = s.1; above = s.2 }

@@ -3,8 +3,9 @@
 --   47 50, owner (one byte), marks (one byte), the number of moves, sixteen moves, the unused ones zero
 --
 -- The mark stands in hexadecimal. The numbers of moves and the moves have two bytes each, the high byte first.
-use Rattle.std.specs.Prelude.{ℕ, List, [], ◌∷◌, ◌++◌, length, take, replicate}
+use Rattle.std.specs.Prelude.{ℕ, List, ◌∷◌, ◌++◌, length, take, replicate}
 use Rattle.arena.specs.Bytes.{two}
+use Rattle.arena.specs.Sets.{concat}
 use Rattle.row.specs.Rows.{Row}
 
 -- the moves and then zeros, sixteen together
@@ -13,8 +14,7 @@ padded moves = take 16 (moves ++ replicate 16 0)
 
 -- numbers in two bytes each
 abbrev pub pairs : List ℕ → List ℕ
-pairs [] = []
-pairs (x ∷ xs) = two x ++ pairs xs
+pairs = concat two
 
 -- the record of a row
 abbrev pub record_of : Row → List ℕ

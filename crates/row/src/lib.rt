@@ -6,4 +6,4 @@ mod row;
 
 pub use faults::{LinkFault, MarkFault};
 pub use marks::has_mark;
-pub use row::{Owner, Row};
+pub use row::{RECORD_BYTES, Row};

@@ -4,12 +4,10 @@ mod edits;
 mod methods;
 mod record;
 
-/// The side that a row's position belongs to.
-#[derive(Clone, Copy, Debug, PartialEq, Eq)]
-pub enum Owner {
-    Controller,
-    Traffic,
-}
+use arena::Owner;
+
+/// How many bytes the record of a row has.
+pub const RECORD_BYTES: usize = 38;
 
 /// A row: what is drawn of one position, its owner, its marks for eight possible goals, and at most sixteen moves in
 /// strictly rising order. Goal g is worth 2 to the g in the marks, and the unused moves are zero. A draft is a row in a

@@ -1,5 +1,5 @@
 pub mod Keeping
-pub mod Growing
 pub mod Pasting
 pub mod Trips
 pub mod Successions
+pub mod Seeking

@@ -1,15 +1,29 @@
 -- A strip written part by part over bytes: each part stands where the one before it ended.
-use Rattle.std.proofs.Common.{◌≡◌, ℕ, ◌+◌, ◌*◌, ◌≤◌, List, ◌++◌, length, drop, sym, refl, ap, ◌∙◌, arith}
+use Rattle.std.proofs.Common.{◌≡◌, ℕ, zero, suc, ◌+◌, ◌*◌, ◌≤◌, List, [], ◌∷◌, ◌++◌, length, drop, sym, refl, ap, ◌∙◌, arith}
 use lib.Seq.{paste}
 use Rattle.std.proofs.lemmas.List.Edits.{paste_all, paste-paste, length-paste}
-use Rattle.std.proofs.lemmas.List.{length-append}
-use Rattle.arena.specs.Sets.{concat, upto}
+use Rattle.std.proofs.lemmas.List.{append-nil, length-append}
+use Rattle.arena.specs.Sets.{concat, from, upto}
 use Rattle.row.specs.Rows.{Row}
 use Rattle.row.specs.Records.{record_of}
 use Rattle.row.proofs.RecordBytes.{length_record}
 use Rattle.strip.specs.Writing.{strip, strip_bytes, head_of, end_of}
 use Rattle.strip.proofs.InRecords.{length_concat}
-use Rattle.sheet.proofs.Growing.{concat_more}
+use Rattle.std.proofs.lemmas.Grind.{flat_map-append}
+
+-- the numbers below n grow at their end
+from_more : (i c : ℕ) → from i (suc c) ≡ from i c ++ (i + c) ∷ []
+from_more i zero = let e : i ≡ i + 0 = omega arith in ap (λ x. x ∷ []) e
+from_more i (suc c) = let e : i + 1 + c ≡ i + suc c = omega arith in ap (λ xs. i ∷ xs) (from_more (i + 1) c ∙ ap (λ x. from (i + 1) c ++ x ∷ []) e)
+
+concat_more : (f : ℕ → List ℕ) (n : ℕ) → concat f (upto (n + 1)) ≡ concat f (upto n) ++ f n
+concat_more f n =
+    let s : n + 1 ≡ suc n = omega arith in
+    let z : 0 + n ≡ n = omega arith in
+    ap (λ m. concat f (upto m)) s
+    ∙ ap (concat f) (from_more 0 n ∙ ap (λ x. upto n ++ x ∷ []) z)
+    ∙ flat_map-append f (upto n) (n ∷ [])
+    ∙ ap (λ ys. concat f (upto n) ++ ys) (append-nil (f n))
 
 module _ (row : ℕ → Row) where
   -- the records of the first p rows

@@ -1,7 +1,8 @@
 -- The round trip on sheets: what a sheet writes is read back into its rows, and a strip that is loaded is what the sheet then
 -- writes. Both come from the round trip on strips, since a strip is made of the rows below its number of positions.
-use Rattle.std.proofs.Common.{◌≡◌, ℕ, zero, suc, ◌+◌, ◌^◌, ◌<◌, ◌≤◌, List, [], ◌∷◌, ◌++◌, map, length, get_or, take, None, sym, refl, ap, ◌∙◌, subst, arith}
+use Rattle.std.proofs.Common.{◌≡◌, ℕ, zero, suc, ◌+◌, ◌^◌, ◌<◌, ◌≤◌, List, ◌∷◌, ◌++◌, map, length, get_or, take, None, sym, refl, ap, ◌∙◌, subst, arith}
 use Rattle.std.proofs.lemmas.List.{take_at}
+use Rattle.std.proofs.lemmas.List.FromFn.{fill_by_all, get_or-map-range_with_len}
 use Rattle.arena.specs.Refusals.{accepted, done, after, require_none}
 use Rattle.arena.specs.Sets.{concat, from, upto}
 use Rattle.row.specs.Rows.{Row, empty}
@@ -16,35 +17,25 @@ use Rattle.sheet.specs.Sheets.{Sheet, all_in, row_on, lowest_out, load_answer, l
 use Rattle.sheet.specs.Slots.{row_at, Below, Marked}
 
 -- rows listed by a function, and functions that agree on what is listed
-listed_from : (f : ℕ → Row) (i c j : ℕ) → j < c → get_or (map f (from i c)) j empty ≡ f (i + j)
-listed_from f i zero j l = absurd (omega arith)
-listed_from f i (suc c) zero l = let e : i ≡ i + 0 = omega arith in ap f e
-listed_from f i (suc c) (suc j) l = let e : suc i + j ≡ i + suc j = omega arith in listed_from f (suc i) c j (omega arith) ∙ ap f e
-
 listed_at : (f : ℕ → Row) (n p : ℕ) → p < n → row_at (map f (upto n)) p ≡ f p
-listed_at f n p l = let e : 0 + p ≡ p = omega arith in listed_from f 0 n p l ∙ ap f e
+listed_at f n p l = get_or-map-range_with_len f 0 n p p empty l (omega arith)
 
 same_map : (f g : ℕ → Row) (i c : ℕ) → ((p : ℕ) → i ≤ p → p < i + c → f p ≡ g p) → map f (from i c) ≡ map g (from i c)
 same_map f g i zero h = refl
 same_map f g i (suc c) h =
     let here : f i ≡ g i = h i (omega arith) (omega arith) in
-    let rest : map f (from (suc i) c) ≡ map g (from (suc i) c) = same_map f g (suc i) c (λ p a b. h p (omega arith) (omega arith)) in
+    let rest : map f (from (i + 1) c) ≡ map g (from (i + 1) c) = same_map f g (i + 1) c (λ p a b. h p (omega arith) (omega arith)) in
     λ t. here t ∷ rest t
 
 same_concat : (f g : ℕ → List ℕ) (i c : ℕ) → ((p : ℕ) → i ≤ p → p < i + c → f p ≡ g p) → concat f (from i c) ≡ concat g (from i c)
 same_concat f g i zero h = refl
 same_concat f g i (suc c) h =
     let here : f i ≡ g i = h i (omega arith) (omega arith) in
-    let rest : concat f (from (suc i) c) ≡ concat g (from (suc i) c) = same_concat f g (suc i) c (λ p a b. h p (omega arith) (omega arith)) in
+    let rest : concat f (from (i + 1) c) ≡ concat g (from (i + 1) c) = same_concat f g (i + 1) c (λ p a b. h p (omega arith) (omega arith)) in
     λ t. here t ++ rest t
 
-shifted : (r : Row) (rs : List Row) (i c : ℕ) → map (λ p. get_or (r ∷ rs) p empty) (from (suc i) c) ≡ map (λ p. get_or rs p empty) (from i c)
-shifted r rs i zero = refl
-shifted r rs i (suc c) = ap (λ xs. get_or rs i empty ∷ xs) (shifted r rs (suc i) c)
-
 all_listed : (rs : List Row) → map (λ p. get_or rs p empty) (upto (length rs)) ≡ rs
-all_listed [] = refl
-all_listed (r ∷ rs) = ap (λ xs. r ∷ xs) (shifted r rs 0 (length rs) ∙ all_listed rs)
+all_listed rs = sym (fill_by_all (λ p. get_or rs p empty) rs (length rs) empty refl (λ k l. refl))
 
 -- the strip of rows that are the same below n
 same_strip : (n k : ℕ) (f g : ℕ → Row) → ((p : ℕ) → p < n → f p ≡ g p) → strip n k f ≡ strip n k g

@@ -4,9 +4,10 @@ use Rattle.std.proofs.Common.{arith}
 use Rattle.arena.specs.Arena.{Lawful}
 use Rattle.row.specs.Rows as rows
 use Rattle.row.specs.Rows.{empty}
-use Rattle.row.specs.RowModel.{row_of, owner_number}
-use Rattle.row.specs.declared.row.Owner.{Owner}
-use Rattle.row.specs.declared.row.Owner.TheVariants.{Controller, Traffic}
+use Rattle.arena.specs.Owners.{owner_number}
+use Rattle.arena.specs.declared.owner.Owner.{Owner}
+use Rattle.arena.specs.declared.owner.Owner.TheVariants.{Controller, Traffic}
+use Rattle.row.specs.RowModel.{row_of}
 use Rattle.row.proofs.Moves.{Rises, moves_count, moves_rise}
 use Rattle.sheet.specs.declared.slot.Slot.{Slot}
 use Rattle.sheet.specs.Slots.{rows_of, row_at, Below, Moved, arena_drawn}

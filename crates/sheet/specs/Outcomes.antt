@@ -15,31 +15,31 @@ use Rattle.sheet.specs.declared.slip.Slip.{Slip}
 abbrev pub unspent : ℕ → ℕ → Slip
 unspent seat p = record { seat = seat; position = p; spent = false }
 
+-- what a call answers that has nothing to tell
+abbrev pub outcome : {E : Type 0} → (E → Outcome Done) → Result (Unit {0}) E → Outcome Done
+outcome refusal (Ok _) = accepted done
+outcome refusal (Err f) = refusal f
+
 abbrev pub shape_outcome : Result (Unit {0}) ShapeFault → Outcome Done
-shape_outcome (Ok _) = accepted done
-shape_outcome (Err f) = shape_refusal f
+shape_outcome = outcome shape_refusal
 
 -- an accepted take tells a slip
 abbrev pub take_outcome : Result Slip TakeFault → Outcome Slip
 take_outcome (Ok slip) = accepted slip
 take_outcome (Err f) = take_refusal f
 
+-- a refused put hands the slip back too
 abbrev pub put_outcome : Result (Unit {0}) (PutFault × Slip) → Outcome Done
-put_outcome (Ok _) = accepted done
-put_outcome (Err f) = put_refusal f.0
+put_outcome = outcome (λ f. put_refusal f.0)
 
 abbrev pub let_go_outcome : Result (Unit {0}) LetGoFault → Outcome Done
-let_go_outcome (Ok _) = accepted done
-let_go_outcome (Err f) = let_go_refusal f
+let_go_outcome = outcome let_go_refusal
 
 abbrev pub close_outcome : Result (Unit {0}) CloseFault → Outcome Done
-close_outcome (Ok _) = accepted done
-close_outcome (Err f) = close_refusal f
+close_outcome = outcome close_refusal
 
 abbrev pub load_outcome : Result (Unit {0}) LoadFault → Outcome Done
-load_outcome (Ok _) = accepted done
-load_outcome (Err f) = load_refusal f
+load_outcome = outcome load_refusal
 
 abbrev pub write_outcome : Result (Unit {0}) WriteFault → Outcome Done
-write_outcome (Ok _) = accepted done
-write_outcome (Err f) = write_refusal f
+write_outcome = outcome write_refusal

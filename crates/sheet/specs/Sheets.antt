@@ -1,7 +1,7 @@
 -- A sheet by its calls: what each answers, and what it leaves. Read after the rows and the strip; a succession of calls
 -- comes next. A seat is one of those who draw on the sheet. A row that a seat has taken is out to it; the slip that it
 -- then holds tells the seat and the position, so put and let go name these two.
-use Rattle.std.specs.Prelude.{◌≡◌, ℕ, ◌^◌, Bool, not, ◌&&◌, ltb, List, ◌++◌, map, length, take, drop, replicate, None, Option, ◌==◌, nat_le, nat_lt, slice_index, slice_index_or, slice_set}
+use Rattle.std.specs.Prelude.{◌≡◌, ℕ, ◌^◌, Bool, not, ◌&&◌, List, ◌++◌, map, length, take, drop, replicate, None, Option, ◌==◌, nat_le, nat_lt, slice_index, slice_index_or, slice_set}
 use Rattle.arena.specs.Refusals.{Outcome, accepted, refused, Done, done, require, require_none, after}
 use Rattle.arena.specs.Arena.{Meaning}
 use Rattle.arena.specs.Sets.{all, between, least, count, upto}
@@ -85,7 +85,7 @@ module _ (s : Sheet) where
   abbrev pub put_answer : ℕ → ℕ → Row → Outcome Done
   put_answer seat p r =
       require (out_to seat p) 7
-      (require (all (λ q. ltb q s.size) r.moves) 8
+      (require (all (λ q. nat_lt q s.size) r.moves) 8
       (require (nat_lt r.marks (2 ^ s.goals)) 9 (accepted done)))
 
   -- the sheet after it; refused, as it was

@@ -1,10 +1,11 @@
-ghost use Rattle.std.specs.Prelude.{◌≡◌, ℕ, ◌≤◌, [], length};
+ghost use Rattle.std.specs.Prelude.{◌≡◌, ℕ, ◌<◌, ◌≤◌, [], length, MatchOption};
+ghost use Rattle.row.specs.RowModel.{row_of};
 ghost use Rattle.sheet.specs.Laws.{lawful_slots};
-ghost use Rattle.sheet.specs.Slots.{Below, Moved, arena_drawn, rows_of};
+ghost use Rattle.sheet.specs.Slots.{Below, Moved, arena_drawn, row_at, rows_of};
 
 use crate::slot::Slot;
-use crate::slots::row_of;
 use arena::Arena;
+use row::Row;
 
 /// A closed sheet: the arena that a sheet's rows draw, over the sheet itself, which it borrows. While it stands the sheet
 /// cannot be edited. It holds no rows, and is an arena of no positions, until `close` fills it.
@@ -30,6 +31,15 @@ impl<'a> ClosedSheet<'a> {
     }
 }
 
+impl ClosedSheet<'_> {
+    /// The row of position `p`, if there is such a position.
+    fn row(&self, p: u16) -> Option<&Row>
+        ensures { MatchOption result (length self.now.slots.now ≤ p) (λ row. (p < length self.now.slots.now) × (row_of row.now ≡ row_at (rows_of self.now.slots.now) p)) }
+    {
+        self.slots.get(p as usize).map(|slot| &slot.row)
+    }
+}
+
 impl Arena for ClosedSheet<'_> {
     ghost meaning = { λ s. arena_drawn s.goals s.slots.now };
 
@@ -44,38 +54,25 @@ impl Arena for ClosedSheet<'_> {
     }
 
     fn owner(&self, p: u16) -> Option<u16> {
-        if p >= self.positions() {
-            return None;
-        }
-        Some(row_of(self.slots, p).owner().number())
+        let row = self.row(p)?;
+        Some(u16::from(row.owner()))
     }
 
     fn marked(&self, p: u16, g: u16) -> Option<bool> {
-        if p >= self.positions() {
-            return None;
-        }
+        let row = self.row(p)?;
         if g >= self.goals {
             return None;
         }
-        Some(row_of(self.slots, p).is_marked(g))
+        Some(row.is_marked(g))
     }
 
     fn move_count(&self, p: u16) -> Option<u16> {
-        if p >= self.positions() {
-            return None;
-        }
-        Some(row_of(self.slots, p).moves().len() as u16)
+        let row = self.row(p)?;
+        Some(row.moves().len() as u16)
     }
 
     fn nth_move(&self, p: u16, j: u16) -> Option<u16> {
-        if p >= self.positions() {
-            return None;
-        }
-        let row = row_of(self.slots, p);
-        let moves = row.moves();
-        if j as usize >= moves.len() {
-            return None;
-        }
-        Some(moves[j as usize])
+        let row = self.row(p)?;
+        row.moves().get(j as usize).copied()
     }
 }

@@ -6,7 +6,7 @@ ghost use Rattle.strip.specs.Strip.{fault, row_read, size};
 
 use crate::slot::Slot;
 use row::Row;
-use strip::{next_record, read_row};
+use strip::{next_record, read_row, record_at};
 
 /// The row that a strip without a fault stores for position `p`.
 fn stored_row(strip: &[u8], p: u16) -> Row
@@ -14,12 +14,8 @@ fn stored_row(strip: &[u8], p: u16) -> Row
     requires inside { p < size strip.now }
     ensures { row_of result ≡ row_read strip.now p }
 {
-    let (_, rest) = strip.split_at(6 + 38 * p as usize);
-    let (record, _) = next_record(rest);
-    let Some(row) = read_row(record) else {
-        unreachable()
-    };
-    row
+    let (record, _) = next_record(&strip[record_at(p)..]);
+    read_row(record).unwrap()
 }
 
 /// Makes the rows those that a strip without a fault stores, all in.
@@ -36,7 +32,7 @@ pub(crate) fn fill_read(slots: &mut Vec<Slot>, strip: &[u8], n: u16)
     for p in 0..n {
         slots.push_reserved(Slot {
             row: stored_row(strip, p),
-            seat: 0,
+            holder: None,
         });
     }
 }

@@ -1,12 +1,13 @@
-ghost use Rattle.std.specs.Prelude.{ℕ, ◌<◌, ◌≤◌, vec_len, vec_capacity};
-ghost use Rattle.sheet.specs.Slots.{Below, Marked, rows_of};
-
 use crate::slot::Slot;
+use std::marker::Model;
 
 mod close;
 mod edits;
 mod methods;
 mod strips;
+
+/// How many rows a sheet has memory for.
+pub(crate) const ROWS: usize = 512;
 
 /// A sheet: the rows of a plant while seats draw it, with the seat that each row is out to. It has memory for 512 rows
 /// from the start and never asks for more.
@@ -14,11 +15,16 @@ mod strips;
 pub struct Sheet {
     goals: u16,
     slots: Vec<Slot>,
-    ghost goaled: { 0 < goals },
-    ghost bounded: { goals ≤ 8 },
-    ghost drawn: { 0 < vec_len slots },
-    ghost few: { vec_len slots ≤ 512 },
-    ghost room: { 512 ≤ vec_capacity slots },
-    ghost below: { Below (vec_len slots) (rows_of slots.items) },
-    ghost marked: { Marked (vec_len slots) goals (rows_of slots.items) },
+}
+
+impl Model for Sheet {
+    ghost use Rattle.sheet.specs.Sheets as sheets;
+
+    ghost Value = { sheets.Sheet };
+
+    ghost use Rattle.sheet.specs.SheetModel.{sheet_of, Held};
+
+    ghost view = { sheet_of };
+
+    ghost invariant = { Held };
 }

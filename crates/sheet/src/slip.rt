@@ -5,6 +5,7 @@ ghost use Rattle.std.specs.Prelude.{◌≡◌, true, false};
 pub struct Slip {
     seat: u8,
     position: u16,
+    // A flag and no type of its own, so that it is the prover who refuses a slip that is forgotten.
     spent: bool,
 }
 

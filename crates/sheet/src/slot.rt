@@ -1,8 +1,11 @@
+ghost use Rattle.std.specs.Prelude.{◌≢◌, Some};
+
 use row::Row;
 
-/// One row of a sheet, with the seat that it is out to; 0 while it is in.
+/// One row of a sheet, with the seat that it is out to, if it is out. Seats count from 1.
 #[derive(Clone, Copy)]
 pub struct Slot {
     pub row: Row,
-    pub seat: u8,
+    pub holder: Option<u8>,
+    ghost seated: { holder ≢ Some 0 },
 }

@@ -1,40 +1,36 @@
-ghost use Rattle.std.specs.Prelude.{◌≡◌, ℕ, ◌+◌, ◌*◌, ◌≤◌, ◌++◌, length, drop};
+ghost use Rattle.std.specs.Prelude.{◌≡◌, ℕ, ◌+◌, ◌≤◌, ◌++◌, length, drop};
 ghost use Rattle.sheet.specs.Slots.{row_at, rows_of};
 ghost use Rattle.strip.specs.Writing.{end_of, head_of, strip, strip_bytes};
 ghost use Rattle.std.proofs.Math.Seq.{paste};
 
 use crate::slot::Slot;
-use crate::slots::row_of;
+use strip::{END_BYTES, END_MARK, HEAD_BYTES, HEAD_MARK, record_at};
 
 /// Writes bytes over others, from a place on.
 fn put_at(bytes: &mut [u8], at: usize, what: &[u8])
     requires { at + length what.now ≤ length bytes.old }
     ensures { bytes.new ≡ paste bytes.old at what.now (length what.now) }
 {
-    for i in 0..what.len() {
-        bytes[at + i] = what[i];
-    }
+    bytes[at..at + what.len()].copy_from_slice(what);
 }
 
 /// The head of a strip of `n` positions and `k` goals.
-fn head(n: u16, k: u16) -> [u8; 6]
+fn head(n: u16, k: u16) -> [u8; HEAD_BYTES]
     ensures { result ≡ head_of n k }
 {
-    [
-        0x47,
-        0x48,
-        (n / 256) as u8,
-        (n % 256) as u8,
-        (k / 256) as u8,
-        (k % 256) as u8,
-    ]
+    let [mark, kind] = HEAD_MARK;
+    let [n_high, n_low] = n.to_be_bytes();
+    let [k_high, k_low] = k.to_be_bytes();
+    [mark, kind, n_high, n_low, k_high, k_low]
 }
 
 /// The end of a strip of `n` positions.
-fn end(n: u16) -> [u8; 4]
+fn end(n: u16) -> [u8; END_BYTES]
     ensures { result ≡ end_of n }
 {
-    [0x47, 0x45, (n / 256) as u8, (n % 256) as u8]
+    let [mark, kind] = END_MARK;
+    let [high, low] = n.to_be_bytes();
+    [mark, kind, high, low]
 }
 
 /// Writes the strip of the rows over the first bytes.
@@ -45,8 +41,8 @@ pub(crate) fn put_strip(slots: &[Slot], k: u16, bytes: &mut [u8])
 {
     let n = slots.len() as u16;
     put_at(bytes, 0, &head(n, k));
-    for p in 0..n {
-        put_at(bytes, 6 + 38 * p as usize, &row_of(slots, p).record());
+    for (p, slot) in slots.iter().enumerate() {
+        put_at(bytes, record_at(p as u16), &slot.row.record());
     }
-    put_at(bytes, 6 + 38 * n as usize, &end(n));
+    put_at(bytes, record_at(n), &end(n));
 }

@@ -1,7 +1,7 @@
 -- The refusals of the sheet's calls: for each case its number and the values that it names.
-use Rattle.std.specs.Prelude.{◌≡◌, ℕ, List, [], ◌∷◌, Some, None, Option}
-use Rattle.arena.specs.Refusals.{Outcome, Done, refused}
-use Rattle.sheet_faults.specs.declared.refusal.Refusal.{Refusal}
+use Rattle.std.specs.Prelude.{[], ◌∷◌}
+use Rattle.arena.specs.Refusals.{Outcome, refused}
+use Rattle.strip.specs.Refusals.{strip_refusal}
 use Rattle.sheet_faults.specs.declared.faults.ShapeFault.{ShapeFault}
 use Rattle.sheet_faults.specs.declared.faults.ShapeFault.TheVariants as shape
 use Rattle.sheet_faults.specs.declared.faults.TakeFault.{TakeFault}
@@ -39,19 +39,10 @@ abbrev pub close_refusal : {A : Type 0} → CloseFault → Outcome A
 close_refusal (close.RowOut position) = refused 10 (position ∷ [])
 close_refusal (close.NoMoves position) = refused 11 (position ∷ [])
 
--- a strip's fault is there whole, and names its place
+-- a strip's fault is there whole, and told as its own
 abbrev pub load_refusal : {A : Type 0} → LoadFault → Outcome A
 load_refusal (load.RowOut position) = refused 10 (position ∷ [])
-load_refusal (load.Strip f) = refused 13 (f.place ∷ [])
+load_refusal (load.Strip f) = strip_refusal f
 
 abbrev pub write_refusal : {A : Type 0} → WriteFault → Outcome A
 write_refusal write.Short = refused 3 []
-
--- what a refusal in numbers names
-abbrev pub named_by : Option ℕ → List ℕ
-named_by None = []
-named_by (Some place) = place ∷ []
-
--- a refusal in numbers tells an outcome
-abbrev pub Same : Refusal → Outcome Done → Type 0
-Same r o = refused r.number (named_by r.named) ≡ o

@@ -4,4 +4,3 @@ mod faults;
 mod refusal;
 
 pub use faults::{CloseFault, LetGoFault, LoadFault, PutFault, ShapeFault, TakeFault, WriteFault};
-pub use refusal::Refusal;

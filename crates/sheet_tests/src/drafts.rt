@@ -1,10 +1,11 @@
-use row::{LinkFault, MarkFault, Owner, Row};
+use arena::Owner;
+use row::{LinkFault, MarkFault, Row};
 
 /// A draft with moves to the first so many even positions.
 fn linked(count: u16) -> Row {
     let mut draft = Row::empty();
-    for j in 0..count {
-        let _ = draft.link(j.wrapping_mul(2));
+    for q in (0..).step_by(2).take(count as usize) {
+        let _ = draft.link(q);
     }
     draft
 }
@@ -24,13 +25,7 @@ fn a_move_goes_to_its_place(rt: HostRuntime) {
     let mut draft = linked(3);
     assert_eq!(rt; draft.link(3), Ok(true));
     assert_eq!(rt; draft.link(65535), Ok(true));
-    let moves = draft.moves();
-    assert!(rt; moves.len() == 5);
-    assert_eq!(rt; moves[0], 0);
-    assert_eq!(rt; moves[1], 2);
-    assert_eq!(rt; moves[2], 3);
-    assert_eq!(rt; moves[3], 4);
-    assert_eq!(rt; moves[4], 65535);
+    assert_eq!(rt; draft.moves(), [0, 2, 3, 4, 65535].as_slice());
 }
 
 #[test]
@@ -38,10 +33,7 @@ fn a_move_is_taken_away_once(rt: HostRuntime) {
     let mut draft = linked(3);
     assert!(rt; draft.unlink(2));
     assert!(rt; !draft.unlink(2));
-    let moves = draft.moves();
-    assert!(rt; moves.len() == 2);
-    assert_eq!(rt; moves[0], 0);
-    assert_eq!(rt; moves[1], 4);
+    assert_eq!(rt; draft.moves(), [0, 4].as_slice());
 }
 
 #[test]
@@ -64,5 +56,5 @@ fn an_owner_is_assigned_once(rt: HostRuntime) {
     assert!(rt; !draft.assign(Owner::Controller));
     assert!(rt; draft.assign(Owner::Traffic));
     assert!(rt; !draft.assign(Owner::Traffic));
-    assert_eq!(rt; draft.owner().number(), 1);
+    assert_eq!(rt; u16::from(draft.owner()), 1);
 }

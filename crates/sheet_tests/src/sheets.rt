@@ -14,7 +14,7 @@ fn one_move(q: u16) -> Row {
 }
 
 /// Puts the draft with a slip; where that is refused, tells why and lets the row go.
-fn put(sheet: &mut Sheet, slip: Slip, draft: &Row) -> Result<(), PutFault> {
+pub(crate) fn put(sheet: &mut Sheet, slip: Slip, draft: &Row) -> Result<(), PutFault> {
     match sheet.put(slip, draft) {
         Ok(()) => Ok(()),
         Err((fault, slip)) => {

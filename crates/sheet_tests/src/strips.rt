@@ -1,33 +1,29 @@
-use row::{Owner, Row};
+use crate::sheets::put;
+use arena::Owner;
+use row::Row;
 use sheet::Sheet;
-use sheet_faults::{LoadFault, WriteFault};
+use sheet_faults::{LoadFault, PutFault, WriteFault};
 use std::test::Fail;
 use strip::StripFault;
 
 /// Draws row 1 of the sheet: the traffic's, marked for goal 1, with moves to 0 and 2.
-fn draw(sheet: &mut Sheet) -> bool {
+fn draw(sheet: &mut Sheet) -> Result<(), PutFault> {
     let mut draft = Row::empty();
     let Ok(slip) = sheet.take(2, 1, &mut draft) else {
-        return false;
+        return Err(PutFault::NotOut);
     };
     let _ = draft.assign(Owner::Traffic);
     let _ = draft.mark(1);
     let _ = draft.link(2);
     let _ = draft.link(0);
-    match sheet.put(slip, &draft) {
-        Ok(()) => true,
-        Err((_, slip)) => {
-            let _ = sheet.let_go(slip);
-            false
-        }
-    }
+    put(sheet, slip, &draft)
 }
 
 #[test]
 fn a_strip_is_read_back(rt: HostRuntime) -> Result<(), Fail> {
     let mut sheet = Sheet::new(rt.alloc())?;
     assert!(rt; sheet.shape(3, 2).is_ok());
-    assert!(rt; draw(&mut sheet));
+    assert_eq!(rt; draw(&mut sheet), Ok(()));
     let mut bytes = [0xff; 130];
     assert_eq!(rt; sheet.write(&mut bytes), Ok(()));
     assert_eq!(rt; bytes[3], 3);
@@ -42,9 +38,7 @@ fn a_strip_is_read_back(rt: HostRuntime) -> Result<(), Fail> {
     assert_eq!(rt; other.load(&bytes[0..124]), Ok(()));
     let mut again = [0xff; 130];
     assert_eq!(rt; other.write(&mut again), Ok(()));
-    for i in 0..130 {
-        assert_eq!(rt; again[i], bytes[i]);
-    }
+    assert_eq!(rt; again, bytes);
     Ok(())
 }
 

@@ -1,46 +1,16 @@
--- Sets in columns: targets and cores as they are marked, and what a column of ranks tells of an attractor.
-use Rattle.std.proofs.Common.{◌≡◌, ℕ, zero, suc, ◌+◌, ◌-◌, ◌<◌, ◌≤◌, Bool, true, false, cond, not, ◌&&◌, eqb, ltb, List, get_or, Some, None, Option, sym, refl, ap, ◌∙◌, inl, inr, arith}
-use Rattle.std.proofs.lemmas.Bool.{cases_lt, cases_Bool, lt-ltb, le-ltb, ne_eqb, and_left, not_from_true, not_from_false}
-use Rattle.arena.specs.Arena.{Meaning}
-use Rattle.arena.specs.Sets.{from, upto, value_or}
+-- What a column of ranks tells of an attractor, and of the core that it misses.
+use Rattle.std.proofs.Common.{◌≡◌, ℕ, suc, ◌-◌, ◌<◌, Bool, true, false, not, ◌&&◌, eqb, ltb, List, length, get_or, Some, None, Option, sym, refl, ap, ◌∙◌, inl, inr, arith}
+use Rattle.std.proofs.lemmas.Bool.{cases_Bool, lt-ltb, ltb-true, eq-eqb, eqb-true, ne_eqb, and_parts, and_from, not_from_true, not_from_false}
+use Rattle.std.specs.Option.{unwrap_or}
+use Rattle.arena.specs.Arena.{Meaning, marked_answer}
+use Rattle.arena.proofs.Within.{within_true}
+use Rattle.arena.specs.Sets.{any, upto, value_or}
+use Rattle.arena.proofs.Basics.{any_from, any_true, in_upto, upto_in}
 use Rattle.solver.specs.Attractor.{round, rank, attracted}
 use Rattle.solver.specs.Solution.{target, core}
-use Rattle.solver.specs.Columns.{code, present, numbered, Column}
-use Rattle.solver.specs.Memory.{unreached, Ranks}
+use Rattle.solver.specs.Columns.{Ranks, code, present}
 use Rattle.solver.proofs.Attraction.{grows_to}
-use Rattle.solver.proofs.Filling.{below_is}
 use Rattle.solver.proofs.Ranks.{least_yes, least_no}
-
-pub upto_at : (n j : ℕ) → j < n → get_or (upto n) j 0 ≡ j
-upto_at n j h = go 0 n j h ∙ omega arith
-  where
-    go : (i c j : ℕ) → j < c → get_or (from i c) j 0 ≡ i + j
-    go i zero j h = absurd (omega arith)
-    go i (suc c) zero h = omega arith
-    go i (suc c) (suc j) h = let e = go (suc i) c j (omega arith) in omega arith
-
--- beyond n there is nothing
-pub present_outside : (n : ℕ) (w : List ℕ) (p : ℕ) → n ≤ p → present n w p ≡ false
-present_outside n w p h = and_left (ltb p n) _ (le-ltb p n h)
-
--- a set that is marked in a column is what the column numbers
-pub marked_set : (n at : ℕ) (f : ℕ → Bool) (w v : List ℕ) → ((p : ℕ) → n ≤ p → f p ≡ false) → Column n at (λ k. cond (f k) 1 0) w v → numbered n v at ≡ f
-marked_set n at f w v out c = λ j p. go p j
-  where
-    one : (b : Bool) → ltb 0 (cond b 1 0) ≡ b
-    one true = refl
-    one false = refl
-
-    go : (p : ℕ) → numbered n v at p ≡ f p
-    go p =
-        elim (cases_lt p n) [
-          | inl h ↦ below_is n p _ h ∙ ap (λ x. ltb 0 x) (c.here p h) ∙ one (f p)
-          | inr h ↦ and_left (ltb p n) _ (le-ltb p n h) ∙ sym (out p h)
-        ]
-
-pub mark_small : (b : Bool) → cond b 1 0 ≤ 1
-mark_small true = omega arith
-mark_small false = omega arith
 
 module _ (m : Meaning) (side : ℕ) (I T : ℕ → Bool) (p : ℕ) where
   -- a position has a rank where the attractor has it
@@ -66,16 +36,45 @@ pub code_value : (o : Option ℕ) → code o - 1 ≡ value_or o 0
 code_value None = refl
 code_value (Some r) = omega arith
 
--- what a column of a goal's ranks misses is the core
-pub unreached_core : (m : Meaning) (g at : ℕ) (v : List ℕ) → Ranks m (present m.size v) g v at → unreached m.size v at ≡ core m (present m.size v) g
-unreached_core m g at v r = λ j p. go p j
-  where
-    I : ℕ → Bool
-    I = present m.size v
+-- the columns that tell which positions are present and which of them a goal's attractor has
+module _ (m : Meaning) (g : ℕ) (taken ranks : List ℕ) (long : length taken ≡ m.size) (r : Ranks m 0 (present taken) (target m (present taken) g) ranks) where
+  abbrev I : ℕ → Bool
+  I = present taken
 
-    go : (p : ℕ) → unreached m.size v at p ≡ core m (present m.size v) g p
-    go p =
-        elim (cases_lt p m.size) [
-          | inl h ↦ ap (λ b. present m.size v p && b) (ap (λ x. eqb x 0) (r p h) ∙ rank_none m 0 (present m.size v) (target m (present m.size v) g) p)
-          | inr h ↦ and_left (present m.size v p) _ (present_outside m.size v p h) ∙ sym (and_left (present m.size v p) _ (present_outside m.size v p h))
-        ]
+  abbrev A : ℕ → Bool
+  A = attracted m 0 I (target m I g)
+
+  -- a position has no number where the attractor misses it
+  pub missed_is : (p : ℕ) → p < m.size → eqb (get_or ranks p 0) 0 ≡ not (A p)
+  missed_is p h = ap (λ x. eqb x 0) (r p h) ∙ rank_none m 0 I (target m I g) p
+
+  pub missed_test : (b : Bool) (p : ℕ) → p < m.size → length ranks ≡ m.size → b ≡ present ranks p → b ≡ not (A p)
+  missed_test b p h same e = e ∙ ap (λ t. t && eqb (get_or ranks p 0) 0) (lt-ltb p (length ranks) (omega arith)) ∙ missed_is p h
+
+  pub core_some : (p : ℕ) × (p < length taken) × (get_or taken p 0 ≡ 0) × (get_or ranks p 0 ≡ 0) → any (core m I g) (upto m.size) ≡ true
+  core_some w =
+      let h : w.0 < m.size = omega (arith, w.1) in
+      any_from (core m I g) w.0 (upto m.size) (in_upto m.size w.0 h)
+      (and_from (I w.0) _ (and_from (ltb w.0 (length taken)) _ (lt-ltb w.0 (length taken) w.1) (eq-eqb (get_or taken w.0 0) 0 w.2)) (sym (missed_is w.0 h) ∙ eq-eqb (get_or ranks w.0 0) 0 w.3))
+
+  pub core_none : ((p : ℕ) → p < length taken → get_or taken p 0 ≡ 0 → 0 < get_or ranks p 0) → any (core m I g) (upto m.size) ≡ false
+  core_none f =
+      elim (cases_Bool (any (core m I g) (upto m.size))) [
+        | inl y ↦
+            let w = any_true (core m I g) (upto m.size) y in
+            let h = upto_in m.size w.0 w.1 in
+            let b = and_parts (I w.0) _ w.2 in
+            let t = and_parts (ltb w.0 (length taken)) _ b.0 in
+            let z = eqb-true (get_or ranks w.0 0) 0 (missed_is w.0 h ∙ b.1) in
+            let o = f w.0 (ltb-true w.0 (length taken) t.0) (eqb-true (get_or taken w.0 0) 0 t.1) in
+            absurd (omega arith)
+        | inr z ↦ z
+      ]
+
+  pub core_is : (b : Bool) → (b ≡ true → (p : ℕ) × (p < length taken) × (get_or taken p 0 ≡ 0) × (get_or ranks p 0 ≡ 0)) → (b ≡ false → (p : ℕ) → p < length taken → get_or taken p 0 ≡ 0 → 0 < get_or ranks p 0) → b ≡ any (core m I g) (upto m.size)
+  core_is true some none = sym (core_some (some refl))
+  core_is false some none = sym (core_none (none refl))
+
+-- the answers of an arena to whether its positions are marked
+pub marks_test : (m : Meaning) (g p : ℕ) (b : Bool) → p < m.size → g < m.goals → b ≡ unwrap_or (marked_answer m p g) false → b ≡ m.marked p g
+marks_test m g p b h l e = e ∙ ap (λ o. unwrap_or o false) (within_true (ltb p m.size && ltb g m.goals) (m.marked p g) (and_from _ _ (lt-ltb p m.size h) (lt-ltb g m.goals l)))

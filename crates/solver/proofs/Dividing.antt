@@ -1,43 +1,26 @@
 -- The stages in memory. What is present after s stages is what s stages have left; a stage takes what it should, and where
 -- no goal has a core the stages are over.
-use Rattle.std.proofs.Common.{◌≡◌, ℕ, suc, ◌+◌, ◌*◌, ◌<◌, ◌≤◌, Bool, true, false, cond, not, ◌&&◌, eqb, ◌⊎◌, List, get_or, Some, None, Option, sym, refl, ap, ◌∙◌, subst, inl, inr, mul_comm, mul-le-mul_left, arith}
-use Rattle.std.proofs.lemmas.Bool.{both_ways, cases_lt, cases_Bool, lt-ltb, ne_eqb, and_right, not_from_true, not_from_false, cond-true, cond-false}
+use Rattle.std.proofs.Common.{◌≡◌, ℕ, suc, ◌+◌, ◌-◌, ◌<◌, ◌≤◌, Bool, true, false, cond, not, ◌&&◌, eqb, ltb, ◌⊎◌, List, length, get_or, Some, None, Option, sym, refl, ap, ◌∙◌, subst, inl, inr, arith}
+use Rattle.std.proofs.lemmas.Bool.{both_ways, cases_lt, cases_Bool, lt-ltb, ltb-true, ne_eqb, and_right, not_from_true, not_from_false, cond-false}
 use Rattle.arena.specs.Arena.{Meaning, Lawful}
 use Rattle.arena.specs.Sets.{value_or}
 use Rattle.arena.proofs.Basics.{Yes, No}
 use Rattle.solver.specs.Attractor.{rank, attracted}
-use Rattle.solver.specs.Solution.{core, missed, without, left, stages, earlier, stage, given_up, approach}
-use Rattle.solver.specs.Solve.{work_numbers}
-use Rattle.solver.specs.Columns.{cell, present}
-use Rattle.solver.specs.Memory.{ranks_at, Ranks, Searched, Staged, Standing, Ready, Beyond}
+use Rattle.solver.specs.Solution.{core, missed, without, left, stages, earlier, stage, given_up, approach, final}
+use Rattle.solver.specs.Columns.{Ranks, code, present}
+use Rattle.solver.specs.Memory.{GoalRanks, Standing}
 use Rattle.solver.proofs.Stages.{closed_left, ended, some_number, missed_some}
 use Rattle.solver.proofs.Decisions.{pick, B, taken_at, taken_once, BTaken, not_final}
-use Rattle.solver.proofs.Filling.{below_is, present_same}
-use Rattle.solver.proofs.Cores.{present_outside}
+use Rattle.solver.proofs.Ranks.{present_outside}
+use Rattle.solver.proofs.Cores.{rank_some, code_value}
 
--- the loop over the stages
-pub record Dividing (m : Meaning) (w v : List ℕ) (s : ℕ) : Type 0 where
-  pub early : s ≤ stages m
-  pub standing : Standing m s v
-  pub high : Beyond m w v
-
--- six columns lie inside the numbers used
-pub six_fit : (m : Meaning) → 6 * m.size ≤ work_numbers m
-six_fit m = let a : 6 ≤ m.goals + 6 = omega arith in omega (arith, mul-le-mul_left m.size a, mul_comm 6 m.size)
+-- a column has a value, by the rank, where another has a rank, and else what it had
+pub record Given (n : ℕ) (value : ℕ → ℕ) (near old new : List ℕ) : Type 0 where
+  pub given : (k : ℕ) → k < n → 0 < get_or near k 0 → get_or new k 0 ≡ value (get_or near k 0 - 1)
+  pub kept : (k : ℕ) → k < n → get_or near k 0 ≡ 0 → get_or new k 0 ≡ get_or old k 0
 
 some_none : (g : ℕ) → Some g ≡ None → ⊥
 some_none g e = let z : ◌≡◌ {A = ℕ} 0 1 = cc in omega arith
-
-pub dividing_none : (m : Meaning) (w : List ℕ) → ((k : ℕ) → k < m.size → get_or w k 0 ≡ 0) → Dividing m w w 0
-dividing_none m w zeros = record {
-  early = omega arith;
-  standing = record {
-    stage_is = λ k h. zeros k h ∙ sym (cond-true (left m 0 k) 0 (stage m k) (lt-ltb k m.size h));
-    goal_is = λ k h e. absurd (both_ways (left m 0 k) e (lt-ltb k m.size h));
-    approach_is = λ k h e. absurd (both_ways (left m 0 k) e (lt-ltb k m.size h));
-  };
-  high = λ k h. refl;
-}
 
 module _ (m : Meaning) (law : Lawful m) (s : ℕ) where
   left_outside : (p : ℕ) → m.size ≤ p → left m s p ≡ false
@@ -47,26 +30,19 @@ module _ (m : Meaning) (law : Lawful m) (s : ℕ) where
         | inr z ↦ z
       ]
 
-  pub present_left : (v : List ℕ) → Standing m s v → present m.size v ≡ left m s
-  present_left v t = λ j p. go p j
+  pub present_left : (taken goals approaches : List ℕ) → length taken ≡ m.size → Standing m s taken goals approaches → present taken ≡ left m s
+  present_left taken goals approaches long t = λ j p. go p j
     where
       zero_is : (b : Bool) (e : ℕ) → eqb (cond b 0 (suc e)) 0 ≡ b
       zero_is true e = refl
       zero_is false e = ne_eqb (suc e) 0 (λ z. omega arith)
 
-      go : (p : ℕ) → present m.size v p ≡ left m s p
+      go : (p : ℕ) → present taken p ≡ left m s p
       go p =
           elim (cases_lt p m.size) [
-            | inl h ↦ below_is m.size p _ h ∙ ap (λ x. eqb x 0) (t.stage_is p h) ∙ zero_is (left m s p) (earlier m p)
-            | inr h ↦ present_outside m.size v p h ∙ sym (left_outside p h)
+            | inl h ↦ ap (λ b. b && eqb (get_or taken p 0) 0) (lt-ltb p (length taken) (omega arith)) ∙ ap (λ x. eqb x 0) (t.stage_is p h) ∙ zero_is (left m s p) (earlier m p)
+            | inr h ↦ present_outside taken p (omega arith) ∙ sym (left_outside p h)
           ]
-
-  pub standing_same : (v u : List ℕ) → ((k : ℕ) → k < 3 * m.size → get_or u k 0 ≡ get_or v k 0) → Standing m s v → Standing m s u
-  standing_same v u e t = record {
-    stage_is = λ k h. e k (omega arith) ∙ t.stage_is k h;
-    goal_is = λ k h z. e (m.size + k) (omega arith) ∙ t.goal_is k h z;
-    approach_is = λ k h z. e (2 * m.size + k) (omega arith) ∙ t.approach_is k h z;
-  }
 
   pub over : s ≤ stages m → missed m (left m s) ≡ None → s ≡ stages m
   over l e =
@@ -118,85 +94,72 @@ module _ (m : Meaning) (law : Lawful m) (s : ℕ) where
         same true = refl
         same false = refl
 
-    pub standing_more : (v u : List ℕ) → Standing m s v → Staged m (s + 1) g v u → Standing m (suc s) u
-    standing_more v u t d = record {
-      stage_is = λ k h. by_stage k h (cases_Bool (T k));
-      goal_is = λ k h e. by_goal k h e (cases_Bool (T k));
-      approach_is = λ k h e. by_approach k h e (cases_Bool (T k));
-    }
-      where
-        I : present m.size v ≡ left m s
-        I = present_left v t
+    module _ (taken goals approaches near : List ℕ) (long : length taken ≡ m.size) (t : Standing m s taken goals approaches)
+        (r : Ranks m 1 (present taken) (core m (present taken) g) near) where
+      I : present taken ≡ left m s
+      I = present_left taken goals approaches long t
 
-        taken : (k x y : ℕ) → cond (attracted m 1 (present m.size v) (core m (present m.size v) g) k) x y ≡ cond (T k) x y
-        taken k x y = λ j. cond (attracted m 1 (I j) (core m (I j) g) k) x y
+      near_is : (k : ℕ) → k < m.size → get_or near k 0 ≡ code (rank m 1 (left m s) (core m (left m s) g) k)
+      near_is k h = r k h ∙ (λ j. code (rank m 1 (I j) (core m (I j) g) k))
 
-        by_stage : (k : ℕ) → k < m.size → (T k ≡ true) ⊎ (T k ≡ false) → get_or u k 0 ≡ cond (left m (suc s) k) 0 (stage m k)
-        by_stage k h (inl y) =
-            let e = earlier_is k h y in
-            let n : s + 1 ≡ stage m k = omega arith in
-            d.stage_is k h ∙ taken k (s + 1) (get_or v k 0) ∙ cond-true (T k) _ _ y ∙ n ∙ sym (cond-false (left m (suc s) k) 0 (stage m k) (gone k y))
-        by_stage k h (inr z) =
-            d.stage_is k h ∙ taken k (s + 1) (get_or v k 0) ∙ cond-false (T k) _ _ z ∙ t.stage_is k h ∙ ap (λ b. cond b 0 (stage m k)) (sym (stays k z))
+      drawn : (k : ℕ) → k < m.size → ltb 0 (get_or near k 0) ≡ T k
+      drawn k h = ap (ltb 0) (near_is k h) ∙ rank_some m 1 (left m s) (core m (left m s) g) k
 
-        by_goal : (k : ℕ) → k < m.size → left m (suc s) k ≡ false → (T k ≡ true) ⊎ (T k ≡ false) → cell u m.size k ≡ given_up m k
-        by_goal k h e (inl y) =
-            d.goal_is k h ∙ taken k g (cell v m.size k) ∙ cond-true (T k) _ _ y ∙ sym (given_is k (earlier_is k h y))
-        by_goal k h e (inr z) =
-            d.goal_is k h ∙ taken k g (cell v m.size k) ∙ cond-false (T k) _ _ z ∙ t.goal_is k h (sym (stays k z) ∙ e)
+      some : (k : ℕ) → k < m.size → Yes T k → 0 < get_or near k 0
+      some k h y = ltb-true 0 (get_or near k 0) (drawn k h ∙ y)
 
-        by_approach : (k : ℕ) → k < m.size → left m (suc s) k ≡ false → (T k ≡ true) ⊎ (T k ≡ false) → cell u (2 * m.size) k ≡ approach m k
-        by_approach k h e (inl y) =
-            d.approach_is k h
-            ∙ taken k (value_or (rank m 1 (present m.size v) (core m (present m.size v) g) k) 0) (cell v (2 * m.size) k)
-            ∙ cond-true (T k) _ _ y
-            ∙ (λ j. value_or (rank m 1 (I j) (core m (I j) g) k) 0)
-            ∙ approach_of k (earlier_is k h y)
-        by_approach k h e (inr z) =
-            d.approach_is k h
-            ∙ taken k (value_or (rank m 1 (present m.size v) (core m (present m.size v) g) k) 0) (cell v (2 * m.size) k)
-            ∙ cond-false (T k) _ _ z
-            ∙ t.approach_is k h (sym (stays k z) ∙ e)
+      none : (k : ℕ) → k < m.size → No T k → get_or near k 0 ≡ 0
+      none k h z =
+          elim (cases_lt 0 (get_or near k 0)) [
+            | inl l ↦ absurd (both_ways (T k) z (sym (drawn k h) ∙ lt-ltb 0 (get_or near k 0) l))
+            | inr l ↦ omega arith
+          ]
+
+      pub standing_more : (u v w : List ℕ) → Given m.size (λ _. s + 1) near taken u → Given m.size (λ _. g) near goals v → Given m.size (λ x. x) near approaches w → Standing m (s + 1) u v w
+      standing_more u v w a b d =
+          let e : suc s ≡ s + 1 = omega arith in
+          subst (λ i. Standing m i u v w) e (record {
+            stage_is = λ k h. by_stage k h (cases_Bool (T k));
+            goal_is = λ k h z. by_goal k h z (cases_Bool (T k));
+            approach_is = λ k h z. by_approach k h z (cases_Bool (T k));
+          })
+        where
+          by_stage : (k : ℕ) → k < m.size → (T k ≡ true) ⊎ (T k ≡ false) → get_or u k 0 ≡ cond (left m (suc s) k) 0 (stage m k)
+          by_stage k h (inl y) =
+              let e = earlier_is k h y in
+              let n : s + 1 ≡ stage m k = omega arith in
+              a.given k h (some k h y) ∙ n ∙ sym (cond-false (left m (suc s) k) 0 (stage m k) (gone k y))
+          by_stage k h (inr z) = a.kept k h (none k h z) ∙ t.stage_is k h ∙ ap (λ b. cond b 0 (stage m k)) (sym (stays k z))
+
+          by_goal : (k : ℕ) → k < m.size → left m (suc s) k ≡ false → (T k ≡ true) ⊎ (T k ≡ false) → get_or v k 0 ≡ given_up m k
+          by_goal k h e (inl y) = b.given k h (some k h y) ∙ sym (given_is k (earlier_is k h y))
+          by_goal k h e (inr z) = b.kept k h (none k h z) ∙ t.goal_is k h (sym (stays k z) ∙ e)
+
+          by_approach : (k : ℕ) → k < m.size → left m (suc s) k ≡ false → (T k ≡ true) ⊎ (T k ≡ false) → get_or w k 0 ≡ approach m k
+          by_approach k h e (inl y) =
+              d.given k h (some k h y)
+              ∙ ap (λ x. x - 1) (near_is k h)
+              ∙ code_value (rank m 1 (left m s) (core m (left m s) g) k)
+              ∙ approach_of k (earlier_is k h y)
+          by_approach k h e (inr z) = d.kept k h (none k h z) ∙ t.approach_is k h (sym (stays k z) ∙ e)
 
 -- a search inside what s stages have left
-module _ (m : Meaning) (law : Lawful m) (w v u : List ℕ) (s : ℕ) (t : Dividing m w v s) where
-  I : present m.size v ≡ left m s
-  I = present_left m law s v t.standing
+module _ (m : Meaning) (law : Lawful m) (s : ℕ) (taken goals approaches : List ℕ) (long : length taken ≡ m.size)
+    (early : s ≤ stages m) (t : Standing m s taken goals approaches) where
+  here : present taken ≡ left m s
+  here = present_left m law s taken goals approaches long t
 
-  pub missed_is : (o : Option ℕ) → Searched m v u o → missed m (left m s) ≡ o
-  missed_is o r = ap (missed m) (sym I) ∙ sym r.answer
+  pub picks_is : (o : Option ℕ) → o ≡ missed m (present taken) → missed m (left m s) ≡ o
+  picks_is o e = ap (missed m) (sym here) ∙ sym e
 
-  pub divided : Searched m v u None → (s ≡ stages m) × Ready m u
-  divided r = (
-    e,
-    record {
-      standing = subst (λ i. Standing m i u) e (standing_same m law s v u (λ k h. r.low k (omega arith)) t.standing);
-      ranks = λ g h. subst (λ (i : ℕ → Bool). Ranks m i g u (ranks_at m g)) (I ∙ ap (left m) e) (r.ranks g h tt);
-    },
-  )
-    where
-      e : s ≡ stages m
-      e = over m law s t.early (missed_is None r)
+  pub is_over : None ≡ missed m (present taken) → s ≡ stages m
+  is_over e = over m law s early (picks_is None e)
 
-  pub goes_on : (g : ℕ) → Searched m v u (Some g) → s < stages m
-  goes_on g r = not_over m law s t.early g (missed_is (Some g) r)
+  pub goes_on : (g : ℕ) → Some g ≡ missed m (present taken) → s < stages m
+  goes_on g e = not_over m law s early g (picks_is (Some g) e)
 
-  pub goal_below : (g : ℕ) → Searched m v u (Some g) → g < m.goals
-  goal_below g r = (missed_some m (left m s) g (missed_is (Some g) r)).0
+  pub goal_below : (g : ℕ) → Some g ≡ missed m (present taken) → g < m.goals
+  goal_below g e = (missed_some m (left m s) g (picks_is (Some g) e)).0
 
-  -- the picked goal's column has its ranks inside what is still present
-  pub source_ranks : (g : ℕ) → Searched m v u (Some g) → Ranks m (present m.size u) g u (ranks_at m g)
-  source_ranks g r =
-      subst (λ (i : ℕ → Bool). Ranks m i g u (ranks_at m g)) (sym (present_same m.size v u (λ k h. r.low k (omega arith))))
-      (r.ranks g (goal_below g r) (omega arith))
-
-  pub dividing_more : (g : ℕ) (x : List ℕ) → Searched m v u (Some g) → Staged m (s + 1) g u x → Dividing m w x (s + 1)
-  dividing_more g x r d =
-      let l = goes_on g r in
-      let st = standing_same m law s v u (λ k h. r.low k (omega arith)) t.standing in
-      let n : suc s ≡ s + 1 = omega arith in
-      record {
-        early = omega arith;
-        standing = subst (λ i. Standing m i x) n (standing_more m law s g l (missed_is (Some g) r) u x st d);
-        high = λ k h. d.high k (omega (arith, six_fit m)) ∙ r.high k h ∙ t.high k h;
-      }
+  pub final_ranks : None ≡ missed m (present taken) → (ranks : List ℕ) (g : ℕ) → GoalRanks m (present taken) g ranks → GoalRanks m (final m) g ranks
+  final_ranks e ranks g r = subst (λ (i : ℕ → Bool). GoalRanks m i g ranks) (here ∙ ap (left m) (is_over e)) r

@@ -3,18 +3,13 @@ pub mod Stages
 pub mod Decisions
 pub mod Records
 pub mod Bytes
-mod Scans
-mod Within
-mod Shortcuts
-mod Filling
+mod Parts
 mod Rounds
 mod Ranks
 mod Cores
-mod Giving
-pub mod Searching
-pub mod Dividing
+mod Searching
+mod Dividing
 mod Choosing
-mod Puts
-pub mod Laid
+mod Laid
 mod Solving
 pub mod Accepting

@@ -1,15 +1,19 @@
 -- Ranks built round by round. A column holds the rank as found in the rounds so far; a round that changes nothing is the
 -- last, and then these are the ranks.
-use Rattle.std.proofs.Common.{◌≡◌, ℕ, zero, suc, ◌+◌, ◌<◌, ◌≤◌, Bool, true, false, cond, ◌&&◌, ◌||◌, ltb, ◌⊎◌, List, Some, None, Option, sym, refl, ap, ◌∙◌, subst, inl, inr, arith}
+use Rattle.std.proofs.Common.{◌≡◌, ℕ, zero, suc, ◌+◌, ◌<◌, ◌≤◌, Bool, true, false, cond, ◌&&◌, ◌||◌, ltb, ◌⊎◌, List, length, get_or, Some, None, Option, sym, refl, ap, ◌∙◌, subst, inl, inr, arith}
+use Rattle.std.proofs.lemmas.List.{get_or_past}
 use Rattle.std.proofs.lemmas.Bool.{both_ways, cases_lt, cases_Bool, lt-ltb, le-ltb, and_left, or_from, cond-true, cond-false}
 use Rattle.arena.specs.Arena.{Meaning, Lawful}
 use Rattle.arena.specs.Sets.{seek, least}
 use Rattle.arena.proofs.Basics.{Yes, No, Least, seek_some, least_found, cases_option}
 use Rattle.solver.specs.Attractor.{round, rank}
-use Rattle.solver.specs.Columns.{cell, code, present, numbered, by_round, drawn_in, next, Column, Room}
+use Rattle.solver.specs.Columns.{Ranks, code, present, by_round, drawn_in, next}
 use Rattle.solver.proofs.Attraction.{R, grows_to, Last, last_next}
-use Rattle.solver.proofs.Filling.{below_is, present_same, column_is, column_twice}
-use Rattle.solver.proofs.Rounds.{Early, early_there}
+use Rattle.solver.proofs.Rounds.{Early, early_zero, early_there}
+
+-- beyond the positions there is nothing
+pub present_outside : (taken : List ℕ) (p : ℕ) → length taken ≤ p → present taken p ≡ false
+present_outside taken p h = and_left (ltb p (length taken)) _ (le-ltb p (length taken) h)
 
 gap : (a b : ℕ) → a ≤ b → (d : ℕ) × (b ≡ a + d)
 gap zero b l = (b, omega arith)
@@ -24,13 +28,13 @@ or_else (Some x) y = Some x
 -- what came first, with one more number tried
 seek_more : (f : ℕ → Bool) (a c : ℕ) → seek f a (suc c) ≡ or_else (seek f a c) (cond (f (a + c)) (Some (a + c)) None)
 seek_more f a zero = let e : a ≡ a + 0 = omega arith in ap (λ x. cond (f x) (Some x) None) e
-seek_more f a (suc c) = go (f a) (seek_more f (suc a) c)
+seek_more f a (suc c) = go (f a) (seek_more f (a + 1) c)
   where
-    go : (b : Bool) → seek f (suc a) (suc c) ≡ or_else (seek f (suc a) c) (cond (f (suc a + c)) (Some (suc a + c)) None) → cond b (Some a) (seek f (suc a) (suc c)) ≡ or_else (cond b (Some a) (seek f (suc a) c)) (cond (f (a + suc c)) (Some (a + suc c)) None)
+    go : (b : Bool) → seek f (a + 1) (suc c) ≡ or_else (seek f (a + 1) c) (cond (f (a + 1 + c)) (Some (a + 1 + c)) None) → cond b (Some a) (seek f (a + 1) (suc c)) ≡ or_else (cond b (Some a) (seek f (a + 1) c)) (cond (f (a + suc c)) (Some (a + suc c)) None)
     go true e = refl
     go false e =
-        let s : suc a + c ≡ a + suc c = omega arith in
-        e ∙ ap (λ x. or_else (seek f (suc a) c) (cond (f x) (Some x) None)) s
+        let s : a + 1 + c ≡ a + suc c = omega arith in
+        e ∙ ap (λ x. or_else (seek f (a + 1) c) (cond (f x) (Some x) None)) s
 
 pub least_more : (f : ℕ → Bool) (n : ℕ) → least f (suc n) ≡ or_else (least f n) (cond (f n) (Some n) None)
 least_more f n =
@@ -60,11 +64,11 @@ module _ (f : ℕ → Bool) (grows : (i j : ℕ) → i ≤ j → Yes f i → Yes
         | inr z ↦ ap (λ o. Early i (code o)) (least_no i z) ∙ sym z
       ]
 
-  pub code_small : (i : ℕ) → code (least f (suc i)) ≤ i + 1
-  code_small i =
+  pub there_least : (i : ℕ) → ltb 0 (code (least f (suc i))) ≡ f i
+  there_least i =
       elim (cases_Bool (f i)) [
-        | inl y ↦ let r = least_yes i y in subst (λ o. code o ≤ i + 1) (sym r.1) (omega (arith, r.2))
-        | inr z ↦ subst (λ o. code o ≤ i + 1) (sym (least_no i z)) (omega arith)
+        | inl y ↦ let r = least_yes i y in ap (λ o. ltb 0 (code o)) r.1 ∙ lt-ltb 0 (suc r.0) (omega arith) ∙ sym y
+        | inr z ↦ ap (λ o. ltb 0 (code o)) (least_no i z) ∙ sym z
       ]
 
   pub code_more : (i : ℕ) (b : Bool) → f (suc i) ≡ (f i || b) → cond (f i) (code (least f (suc i))) (cond b (i + 2) 0) ≡ code (least f (suc (suc i)))
@@ -101,15 +105,16 @@ module _ (f : ℕ → Bool) (grows : (i j : ℕ) → i ≤ j → Yes f i → Yes
           gone (inl y) = absurd (both_ways (f i) z (over (suc (i + d)) (omega arith) y))
           gone (inr y) = y
 
-module _ (m : Meaning) (side at : ℕ) (w : List ℕ) where
+-- the rounds of the attractor of what passes a test inside what no stage has taken
+module _ (m : Meaning) (side : ℕ) (taken : List ℕ) (long : length taken ≡ m.size) (test : ℕ → Bool) where
   abbrev n : ℕ
   n = m.size
 
   abbrev I : ℕ → Bool
-  I = present n w
+  I = present taken
 
   abbrev T : ℕ → Bool
-  T = numbered n w at
+  T p = present taken p && test p
 
   -- the number for k once round i is done
   abbrev pub number : ℕ → ℕ → ℕ
@@ -119,46 +124,38 @@ module _ (m : Meaning) (side at : ℕ) (w : List ℕ) where
   rising k i j l h = grows_to m side I T i j k l h
 
   outside : (i p : ℕ) → n ≤ p → round m side I T i p ≡ false
-  outside zero p h = and_left (ltb p n) _ (le-ltb p n h)
-  outside (suc i) p h = or_from (round m side I T i p) _ (outside i p h) (and_left (I p) _ (and_left (ltb p n) _ (le-ltb p n h)))
+  outside zero p h = and_left (I p) _ (present_outside taken p (omega arith))
+  outside (suc i) p h = or_from (round m side I T i p) _ (outside i p h) (and_left (I p) _ (present_outside taken p (omega arith)))
 
-  pub number_start : ((k : ℕ) → k < n → cell w at k ≤ 1) → (k : ℕ) → k < n → cell w at k ≡ number 0 k
-  number_start small k h = go (cell w at k) refl (small k h)
+  pub number_start : (x k : ℕ) → x ≡ cond (T k) 1 0 → x ≡ number 0 k
+  number_start x k e = e ∙ go (T k)
     where
-      go : (x : ℕ) → cell w at k ≡ x → x ≤ 1 → cell w at k ≡ code (cond (ltb k n && ltb 0 (cell w at k)) (Some 0) None)
-      go zero e l = e ∙ sym (ap code (cond-false _ (Some 0) None (below_is n k _ h ∙ le-ltb 0 (cell w at k) (omega arith))))
-      go (suc zero) e l = e ∙ sym (ap code (cond-true _ (Some 0) None (below_is n k _ h ∙ lt-ltb 0 (cell w at k) (omega arith))))
-      go (suc (suc x)) e l = absurd (omega arith)
-
-  pub number_low : (i k : ℕ) → number i k ≤ i + 1
-  number_low i k = code_small (λ j. round m side I T j k) (rising k) i
+      go : (b : Bool) → cond b 1 0 ≡ code (cond b (Some 0) None)
+      go true = refl
+      go false = refl
 
   -- a round done on the numbers of round i gives those of round i + 1
-  module _ (i : ℕ) (v : List ℕ) (room : Room n at w) (c : Column n at (number i) w v) where
-    inside_same : present n v ≡ I
-    inside_same = present_same n w v (λ k h. c.low k (omega (arith, room.past)))
-
-    by_is : by_round n v at i ≡ round m side I T i
+  module _ (i : ℕ) (v : List ℕ) (same : length v ≡ m.size) (c : (k : ℕ) → k < m.size → get_or v k 0 ≡ number i k) where
+    by_is : by_round v i ≡ round m side I T i
     by_is = λ j p. go p j
       where
-        go : (p : ℕ) → by_round n v at i p ≡ round m side I T i p
+        go : (p : ℕ) → by_round v i p ≡ round m side I T i p
         go p =
             elim (cases_lt p n) [
-              | inl h ↦ below_is n p _ h ∙ ap (Early i) (c.here p h) ∙ early_least (λ j. round m side I T j p) (rising p) i
-              | inr h ↦ and_left (ltb p n) _ (le-ltb p n h) ∙ sym (outside i p h)
+              | inl h ↦ ap (Early i) (c p h) ∙ early_least (λ j. round m side I T j p) (rising p) i
+              | inr h ↦ early_zero i (get_or v p 0) (get_or_past v p 0 (omega arith)) ∙ sym (outside i p h)
             ]
 
-    pub number_next : (k : ℕ) → k < n → next m side at i v k ≡ number (suc i) k
-    number_next k h =
-        (λ j. cond (by_is j k) (c.here k h j) (cond (drawn_in m side (inside_same j) (by_is j) k) (i + 2) 0))
+    pub number_next : (u : List ℕ) → ((k : ℕ) → k < m.size → get_or u k 0 ≡ next m side taken v i k) → (k : ℕ) → k < m.size → get_or u k 0 ≡ number (suc i) k
+    number_next u d k h =
+        d k h
+        ∙ (λ j. cond (ltb 0 (c k h j)) (c k h j) (cond (drawn_in m side I (by_is j) k) (i + 2) 0))
+        ∙ ap (λ b. cond b (number i k) (cond (drawn_in m side I (round m side I T i) k) (i + 2) 0)) (there_least (λ j. round m side I T j k) (rising k) i)
         ∙ code_more (λ j. round m side I T j k) (rising k) i (drawn_in m side I (round m side I T i) k) refl
 
-    pub column_next : (u : List ℕ) → Column n at (next m side at i v) v u → Column n at (number (suc i)) w u
-    column_next u d = column_is n at (next m side at i v) (number (suc i)) w u (column_twice n at (number i) (next m side at i v) w v u c d) number_next
-
     -- where the round changed nothing, all ranks are there
-    pub column_over : Lawful m → i ≤ n → (u : List ℕ) → Column n at (next m side at i v) v u → ((k : ℕ) → k < n → cell u at k ≡ cell v at k) → Column n at (λ k. code (rank m side I T k)) w u
-    column_over law small u d same = column_is n at (number (suc i)) (λ k. code (rank m side I T k)) w u (column_next u d) whole
+    pub number_over : Lawful m → i ≤ m.size → (u : List ℕ) → ((k : ℕ) → k < m.size → get_or u k 0 ≡ next m side taken v i k) → u ≡ v → Ranks m side I T u
+    number_over law small u d stays = λ k h. number_next u d k h ∙ whole k h
       where
         last : Last m side I T i
         last k h y =
@@ -169,9 +166,9 @@ module _ (m : Meaning) (side at : ℕ) (w : List ℕ) where
                   let r = least_yes (λ j. round m side I T j k) (rising k) (suc i) y in
                   let z : number i k ≡ 0 = ap code (least_no (λ j. round m side I T j k) (rising k) i e) in
                   let s : number (suc i) k ≡ suc r.0 = ap code r.1 in
-                  let a = (column_next u d).here k h in
-                  let b = c.here k h in
-                  let o = same k h in
+                  let a = number_next u d k h in
+                  let b = c k h in
+                  let o = ap (λ (xs : List ℕ). get_or xs k 0) stays in
                   omega arith
                   )
             ]

@@ -1,36 +1,9 @@
--- A round in place. What a round adds is written with a number that the round does not read, so the sets that it reads stay.
-use Rattle.std.proofs.Common.{◌≡◌, ℕ, ◌+◌, ◌<◌, ◌≤◌, Bool, true, false, cond, not, ◌&&◌, ◌||◌, eqb, ltb, leb, List, [], ◌∷◌, sym, refl, ap, ◌∙◌, inl, inr, arith}
-use Rattle.std.proofs.lemmas.Bool.{cases_lt, lt-ltb, le-ltb, lt-leb, le-leb, and_left, and_right, and_from, eq-eqb, ne_eqb, cond-true, cond-false}
+-- A round in place. What a round adds is written with a number that the round does not read, so the set that it reads stays.
+use Rattle.std.proofs.Common.{◌≡◌, ℕ, ◌+◌, ◌<◌, ◌≤◌, ◌≢◌, ◌⊎◌, Bool, true, false, cond, ◌&&◌, ltb, leb, List, length, get_or, set, sym, ap, ◌∙◌, inl, inr, arith, below_more}
+use Rattle.std.proofs.lemmas.List.{get_or-set_same, get_or-set_other}
+use Rattle.std.proofs.lemmas.Bool.{cases_lt, lt-ltb, le-ltb, lt-leb, le-leb, and_left, and_right, and_from, cond-true, cond-false}
 use Rattle.arena.specs.Arena.{Meaning}
-use Rattle.arena.specs.Sets.{any, all}
-use Rattle.solver.specs.Columns.{cell, present, by_round, drawn_in, Column, Room, next}
-use Rattle.solver.proofs.Filling.{below_same, below_is, present_same}
-
--- all moves inside lead in where none is inside and out
-none_out : (inside here : ℕ → Bool) (xs : List ℕ) → all (λ q. not (inside q) || here q) xs ≡ not (any (λ q. inside q && not (here q)) xs)
-none_out inside here [] = refl
-none_out inside here (x ∷ xs) = go (inside x) (here x) (none_out inside here xs)
-  where
-    go : (a b : Bool) → all (λ q. not (inside q) || here q) xs ≡ not (any (λ q. inside q && not (here q)) xs) → ((not a || b) && all (λ q. not (inside q) || here q) xs) ≡ not ((a && not b) || any (λ q. inside q && not (here q)) xs)
-    go true true e = e
-    go true false e = refl
-    go false true e = e
-    go false false e = e
-
-module _ (m : Meaning) (side : ℕ) (inside here : ℕ → Bool) (p : ℕ) where
-  pub drawn_out : inside p ≡ false → drawn_in m side inside here p ≡ false
-  drawn_out h = and_left (inside p) _ h
-
-  pub drawn_own : inside p ≡ true → m.owner p ≡ side → drawn_in m side inside here p ≡ any here (m.moves p)
-  drawn_own h o =
-      ap (λ b. b && cond (eqb (m.owner p) side) (any here (m.moves p)) (all (λ q. not (inside q) || here q) (m.moves p))) h
-      ∙ cond-true (eqb (m.owner p) side) _ _ (eq-eqb (m.owner p) side o)
-
-  pub drawn_other : inside p ≡ true → (m.owner p ≡ side → ⊥) → drawn_in m side inside here p ≡ not (any (λ q. inside q && not (here q)) (m.moves p))
-  drawn_other h o =
-      ap (λ b. b && cond (eqb (m.owner p) side) (any here (m.moves p)) (all (λ q. not (inside q) || here q) (m.moves p))) h
-      ∙ cond-false (eqb (m.owner p) side) _ _ (ne_eqb (m.owner p) side o)
-      ∙ none_out inside here (m.moves p)
+use Rattle.solver.specs.Columns.{present, by_round, drawn_in, next}
 
 -- a number that is there by round i
 abbrev pub Early : ℕ → ℕ → Bool
@@ -43,47 +16,52 @@ pub early_late : (i x : ℕ) → i + 1 < x → Early i x ≡ false
 early_late i x h = and_right (ltb 0 x) _ (lt-leb x (i + 1) h)
 
 pub early_there : (i x : ℕ) → 0 < x → x ≤ i + 1 → Early i x ≡ true
-early_there i x h l = and_from _ _ (lt-ltb 0 x h) (le-leb x (i + 1) l)
+early_there i x a b = and_from (ltb 0 x) _ (lt-ltb 0 x a) (le-leb x (i + 1) b)
 
--- what a round has written so far, over the first p positions
-module _ (m : Meaning) (side at i p : ℕ) (w v : List ℕ) (below : p < m.size) (room : Room m.size at w)
-    (low : (k : ℕ) → k < m.size → cell w at k ≤ i + 1) (c : Column p at (next m side at i w) w v) where
-  abbrev n : ℕ
-  n = m.size
-
-  inside_same : present n v ≡ present n w
-  inside_same = present_same n w v (λ k h. c.low k (omega (arith, room.past)))
-
-  written : (b d : Bool) (x y : ℕ) → b ≡ Early i y → x ≡ cond b y (cond d (i + 2) 0) → Early i x ≡ Early i y
-  written true d x y h e = ap (Early i) e
-  written false true x y h e = early_late i x (omega arith) ∙ h
-  written false false x y h e = early_zero i x e ∙ h
-
-  by_same : by_round n v at i ≡ by_round n w at i
-  by_same = below_same n (λ k. Early i (cell v at k)) (λ k. Early i (cell w at k)) go
+-- the round at p: those before have their next numbers, and the others are as they were
+module _ (m : Meaning) (side i p : ℕ) (taken w v : List ℕ)
+    (here : (k : ℕ) → k < p → get_or v k 0 ≡ next m side taken w i k)
+    (rest : (k : ℕ) → p ≤ k → get_or v k 0 ≡ get_or w k 0) where
+  written : (d : Bool) (x y : ℕ) → x ≡ cond (ltb 0 y) y (cond d (i + 2) 0) → Early i x ≡ Early i y
+  written d x y e = go (cases_lt 0 y) d e
     where
-      go : (k : ℕ) → k < n → Early i (cell v at k) ≡ Early i (cell w at k)
-      go k h =
+      go : (0 < y) ⊎ (y ≤ 0) → (d : Bool) → x ≡ cond (ltb 0 y) y (cond d (i + 2) 0) → Early i x ≡ Early i y
+      go (inl h) d e = ap (Early i) (e ∙ cond-true (ltb 0 y) _ _ (lt-ltb 0 y h))
+      go (inr h) true e = early_late i x (let f = e ∙ cond-false (ltb 0 y) _ _ (le-ltb 0 y h) in omega arith) ∙ sym (early_zero i y (omega arith))
+      go (inr h) false e = early_zero i x (e ∙ cond-false (ltb 0 y) _ _ (le-ltb 0 y h)) ∙ sym (early_zero i y (omega arith))
+
+  by_same : by_round v i ≡ by_round w i
+  by_same = λ j k. go k j
+    where
+      go : (k : ℕ) → by_round v i k ≡ by_round w i k
+      go k =
           elim (cases_lt k p) [
-            | inl l ↦ written (by_round n w at i k) (drawn_in m side (present n w) (by_round n w at i) k) (cell v at k) (cell w at k) (below_is n k (Early i (cell w at k)) h) (c.here k l)
-            | inr l ↦ ap (Early i) (c.high (at + k) (omega arith))
+            | inl l ↦ written (drawn_in m side (present taken) (by_round w i) k) (get_or v k 0) (get_or w k 0) (here k l)
+            | inr l ↦ ap (Early i) (rest k l)
           ]
 
-  drawn_same : drawn_in m side (present n v) (by_round n v at i) p ≡ drawn_in m side (present n w) (by_round n w at i) p
-  drawn_same = λ j. drawn_in m side (inside_same j) (by_same j) p
-
-  kept : cell v at p ≡ cell w at p
-  kept = c.high (at + p) (omega arith)
-
   -- the number for p where there was none
-  pub next_new : cell v at p ≡ 0 → (b : Bool) → b ≡ drawn_in m side (present n v) (by_round n v at i) p → next m side at i w p ≡ cond b (i + 2) 0
+  pub next_new : get_or v p 0 ≡ 0 → (b : Bool) → b ≡ drawn_in m side (present taken) (by_round v i) p → next m side taken w i p ≡ cond b (i + 2) 0
   next_new z b e =
-      cond-false (by_round n w at i p) _ _ (and_right (ltb p n) _ (early_zero i (cell w at p) (sym kept ∙ z)))
-      ∙ ap (λ d. cond d (i + 2) 0) (sym (e ∙ drawn_same))
+      let k = rest p (omega arith) in
+      cond-false (ltb 0 (get_or w p 0)) _ _ (le-ltb 0 (get_or w p 0) (omega arith))
+      ∙ ap (λ d. cond d (i + 2) 0) (sym (e ∙ (λ j. drawn_in m side (present taken) (by_same j) p)))
 
   -- and where there was one
-  pub next_old : (cell v at p ≡ 0 → ⊥) → cell v at p ≡ next m side at i w p
+  pub next_old : (get_or v p 0 ≡ 0 → ⊥) → get_or v p 0 ≡ next m side taken w i p
   next_old z =
-      let k = kept in
-      let l = low p below in
-      kept ∙ sym (cond-true (by_round n w at i p) _ _ (below_is n p _ below ∙ early_there i (cell w at p) (omega arith) l))
+      let k = rest p (omega arith) in
+      k ∙ sym (cond-true (ltb 0 (get_or w p 0)) _ _ (lt-ltb 0 (get_or w p 0) (omega arith)))
+
+-- the whole column after the round at p, from what was written there
+module _ (m : Meaning) (side i p : ℕ) (taken w v : List ℕ)
+    (here : (k : ℕ) → k < p → get_or v k 0 ≡ next m side taken w i k)
+    (rest : (k : ℕ) → p ≤ k → get_or v k 0 ≡ get_or w k 0) where
+  pub next_here : (x : ℕ) → p < length v → x ≡ next m side taken w i p → (k : ℕ) → k < p + 1 → get_or (set v p x) k 0 ≡ next m side taken w i k
+  next_here x h e = below_more _ p (λ k l. let ne : k ≢ p = omega arith in get_or-set_other v p k x 0 ne ∙ here k l) (get_or-set_same v p x 0 h ∙ e)
+
+  pub next_rest : (x k : ℕ) → p + 1 ≤ k → get_or (set v p x) k 0 ≡ get_or w k 0
+  next_rest x k l = let ne : k ≢ p = omega arith in get_or-set_other v p k x 0 ne ∙ rest k (omega arith)
+
+  pub pass_here : get_or v p 0 ≡ next m side taken w i p → (k : ℕ) → k < p + 1 → get_or v k 0 ≡ next m side taken w i k
+  pass_here e = below_more _ p here e

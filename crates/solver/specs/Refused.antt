@@ -2,16 +2,16 @@
 -- Read after solve.
 use Rattle.std.specs.Prelude.{ℕ, [], Ok, Err, Result}
 use Rattle.arena.specs.Refusals.{Outcome, accepted, refused}
+use Rattle.arena.specs.Sizes.{size_refusal}
 use Rattle.solver.specs.declared.SolveFault.{SolveFault}
-use Rattle.solver.specs.declared.SolveFault.TheVariants.{Positions, Goals, Memory}
+use Rattle.solver.specs.declared.SolveFault.TheVariants.{Size, Memory}
 
--- the number of a refusal
-abbrev pub refusal : SolveFault → ℕ
-refusal Positions = 1
-refusal Goals = 2
-refusal Memory = 3
+-- why solve refuses
+abbrev pub solve_refusal : {A : Type 0} → SolveFault → Outcome A
+solve_refusal (Size e) = size_refusal e
+solve_refusal Memory = refused 3 []
 
 -- the answer, told as every call's is
 abbrev pub outcome : Result (ℕ × ℕ) SolveFault → Outcome (ℕ × ℕ)
 outcome (Ok answer) = accepted answer
-outcome (Err fault) = refused (refusal fault) []
+outcome (Err fault) = solve_refusal fault

@@ -1,113 +1,112 @@
-ghost use Rattle.std.specs.Prelude.{◌≡◌, ℕ, ◌<◌, ◌≤◌, false, not, ◌&&◌, length, if◌then◌else◌};
-ghost use Rattle.arena.specs.Sets.{any};
-ghost use Rattle.solver.specs.Attractor.{rank};
-ghost use Rattle.solver.specs.Columns.{Column, Ranked, Room, by_round, cell, code, drawn_in, next, numbered, present, sought};
+ghost use Rattle.std.specs.Prelude.{◌≡◌, ℕ, Bool, ◌+◌, ◌<◌, ◌≤◌, false, not, ◌&&◌, ◌||◌, length, ◌==◌, slice_index, if◌then◌else◌};
+ghost use Rattle.arena.specs.Arena.{moves_answer};
+ghost use Rattle.arena.specs.Owners.{owner_number};
+ghost use Rattle.arena.specs.Sets.{all, any};
+ghost use Rattle.solver.specs.Columns.{Ranks, TestsBelow, by_round, drawn_in, next, present};
 
-use arena::Arena;
+use arena::{Arena, Owner, moves_of};
 
-// Whether no stage has taken position `p`.
-pub(crate) fn is_present(work: &[u16], n: u16, p: u16) -> bool
-    requires { (p < n) × (n ≤ length work.now) }
-    ensures { result ≡ present n work.now p }
+// Whether position `p` is there and no stage has taken it.
+pub(crate) fn is_present(taken: &[u16], p: u16) -> bool
+    ensures { result ≡ present taken.now p }
 {
-    work[p as usize] == 0
+    taken.get(usize::from(p)) == Some(&0)
 }
 
-// Whether the column of ranks at `at` has position `p` by round `i`.
-fn is_by(work: &[u16], n: u16, at: usize, i: u16, p: u16) -> bool
-    requires { (p < n) × ((Room n at work.now) × (i < n)) }
-    ensures { result ≡ by_round n work.now at i p }
+// Whether the side owns position `p`.
+pub(crate) fn is_owner<A: Arena>(a: &A, side: Owner, p: u16) -> bool
+    requires { p < (A.meaning a.now).size }
+    ensures { result ≡ ((A.meaning a.now).owner p == owner_number side) }
 {
-    let x = work[at + p as usize];
-    0 < x && x <= i + 1
+    a.owner(p) == Some(u16::from(side))
 }
 
-// Whether a position is looked for: one of the set, or, for the other side, one that is inside and not in the set.
-fn is_wanted(other: bool, inside: bool, by: bool) -> bool
-    ensures { result ≡ (if other then inside && not by else by) }
+// Whether a column of ranks has position `p` by round `i`.
+fn is_by(ranks: &[u16], i: u16, p: u16) -> bool
+    ensures { result ≡ by_round ranks.now i p }
 {
-    if other { inside && !by } else { by }
+    ranks
+        .get(usize::from(p))
+        .is_some_and(|x| 0 < *x && *x - 1 <= i)
 }
 
-// Whether position `p` is looked for, the set being what the column of ranks at `at` has by round `i`.
-fn is_sought(work: &[u16], n: u16, at: usize, i: u16, other: bool, p: u16) -> bool
-    requires { (p < n) × ((Room n at work.now) × (i < n)) }
-    ensures { result ≡ sought n work.now at i other p }
+// The positions that pass become round 0 of a column of ranks, which has one more than the rank, and 0 where there is none.
+fn mark<F: Fn(u16) -> bool>(ranks: &mut [u16], is_member: F)
+    requires small { length ranks.old ≤ 4096 }
+    requires callable { F.IsAlwaysCallable is_member }
+    ensures { (set : ℕ → Bool) → TestsBelow (length ranks.new) (F.post is_member) set → (p : ℕ) → p < length ranks.new → slice_index ranks.new p ≡ (if set p then 1 else 0) }
 {
-    let inside = is_present(work, n, p);
-    let by = is_by(work, n, at, i, p);
-    is_wanted(other, inside, by)
+    for (p, rank) in ranks.iter_mut().enumerate() {
+        *rank = u16::from(is_member(p as u16));
+    }
 }
 
-// Whether some move of position `p` lies in the set that is looked for.
-fn some_move<A: Arena>(a: &A, work: &[u16], at: usize, i: u16, other: bool, p: u16) -> bool
-    requires { (p < (A.meaning a.now).size) × ((Room (A.meaning a.now).size at work.now) × (i < (A.meaning a.now).size)) }
-    ensures { result ≡ any (sought (A.meaning a.now).size work.now at i other) ((A.meaning a.now).moves p) }
-{
-    let n = a.positions();
-    let Some(count) = a.move_count(p) else {
-        return false;
-    };
-    for j in 0..count {
-        let Some(q) = a.nth_move(p, j) else {
-            return false;
-        };
-        if is_sought(work, n, at, i, other, q) {
-            return true;
+// The positions of an arena that no stage has taken.
+#[derive(Drop)]
+pub(crate) struct Present<'a, A: Arena> {
+    pub(crate) arena: &'a A,
+    pub(crate) taken: &'a [u16],
+    ghost fits: { (length taken.now ≡ (A.meaning arena.now).size) × ((A.meaning arena.now).size ≤ 4096) },
+}
+
+impl<A: Arena> Present<'_, A> {
+    // Whether some move of position `p` leads to a position that has a rank by round `i`.
+    fn can_enter(&self, ranks: &[u16], i: u16, p: u16) -> bool
+        ensures { result ≡ any (by_round ranks.now i) (moves_answer (A.meaning self.now.arena.now) p) }
+    {
+        moves_of(self.arena, p).any(|q| is_by(ranks, i, q))
+    }
+
+    // Whether no move of position `p` inside leads elsewhere.
+    fn must_enter(&self, ranks: &[u16], i: u16, p: u16) -> bool
+        ensures { result ≡ all (λ q. not (present self.now.taken.now q) || by_round ranks.now i q) (moves_answer (A.meaning self.now.arena.now) p) }
+    {
+        moves_of(self.arena, p).all(|q| !is_present(self.taken, q) || is_by(ranks, i, q))
+    }
+
+    // Whether the round after round `i` of a side's attractor adds position `p`.
+    fn draws_in(&self, side: Owner, ranks: &[u16], i: u16, p: u16) -> bool
+        requires { p < (A.meaning self.now.arena.now).size }
+        ensures { result ≡ drawn_in (A.meaning self.now.arena.now) (owner_number side) (present self.now.taken.now) (by_round ranks.now i) p }
+    {
+        if !is_present(self.taken, p) {
+            false
+        } else if is_owner(self.arena, side, p) {
+            self.can_enter(ranks, i, p)
+        } else {
+            self.must_enter(ranks, i, p)
         }
     }
-    false
-}
 
-// Whether the round after round `i` of the side's attractor adds position `p`.
-fn is_drawn_in<A: Arena>(a: &A, work: &[u16], at: usize, i: u16, side: u16, p: u16) -> bool
-    requires { (p < (A.meaning a.now).size) × ((Room (A.meaning a.now).size at work.now) × (i < (A.meaning a.now).size)) }
-    ensures { result ≡ drawn_in (A.meaning a.now) side (present (A.meaning a.now).size work.now) (by_round (A.meaning a.now).size work.now at i) p }
-{
-    let n = a.positions();
-    if !is_present(work, n, p) {
-        return false;
-    }
-    let Some(owner) = a.owner(p) else {
-        return false;
-    };
-    if owner == side {
-        some_move(a, work, at, i, false, p)
-    } else {
-        !some_move(a, work, at, i, true, p)
-    }
-}
-
-// The round after round `i`, in place; whether it has added a position.
-fn one_round<A: Arena>(a: &A, work: &mut [u16], at: usize, i: u16, side: u16) -> bool
-    requires room { Room (A.meaning a.now).size at work.old }
-    requires ranked { Ranked (A.meaning a.now).size at i work.old }
-    ensures column { Column (A.meaning a.now).size at (next (A.meaning a.now) side at i work.old) work.old work.new }
-    ensures ended { result ≡ false → (k : ℕ) → k < (A.meaning a.now).size → cell work.new at k ≡ cell work.old at k }
-{
-    let n = a.positions();
-    let mut more = false;
-    for p in 0..n {
-        if work[at + p as usize] == 0 {
-            if is_drawn_in(a, work, at, i, side, p) {
-                work[at + p as usize] = i + 2;
+    // The round after round `i`, in place; whether it has added a position. It looks at those alone that have no rank yet.
+    fn next_round(&self, side: Owner, ranks: &mut [u16], i: u16) -> bool
+        requires early { i < (A.meaning self.now.arena.now).size }
+        requires long { length ranks.old ≡ (A.meaning self.now.arena.now).size }
+        ensures column { (k : ℕ) → k < (A.meaning self.now.arena.now).size → slice_index ranks.new k ≡ next (A.meaning self.now.arena.now) (owner_number side) self.now.taken.now ranks.old i k }
+        ensures ended { result ≡ false → ranks.new ≡ ranks.old }
+    {
+        let mut more = false;
+        // By index, since what is written is read as a whole for each position.
+        for p in 0..self.arena.positions() {
+            if ranks[p as usize] == 0 && self.draws_in(side, ranks, i, p) {
+                ranks[p as usize] = i + 2;
                 more = true;
             }
         }
+        more
     }
-    more
-}
 
-// The side's attractor of the positions that are numbered in the column at `at`, inside those that are present: every rank.
-pub(crate) fn attract<A: Arena>(a: &A, work: &mut [u16], at: usize, side: u16)
-    requires room { Room (A.meaning a.now).size at work.old }
-    requires start { (k : ℕ) → k < (A.meaning a.now).size → cell work.old at k ≤ 1 }
-    ensures { Column (A.meaning a.now).size at (λ k. code (rank (A.meaning a.now) side (present (A.meaning a.now).size work.old) (numbered (A.meaning a.now).size work.old at) k)) work.old work.new }
-{
-    let n = a.positions();
-    for i in 0..n {
-        if !one_round(a, work, at, i, side) {
-            return;
+    // Every rank in a side's attractor of the positions present that pass.
+    pub(crate) fn attract<F: Fn(u16) -> bool>(&self, side: Owner, ranks: &mut [u16], is_target: F)
+        requires long { length ranks.old ≡ (A.meaning self.now.arena.now).size }
+        requires callable { F.IsAlwaysCallable is_target }
+        ensures { (set : ℕ → Bool) → TestsBelow (A.meaning self.now.arena.now).size (F.post is_target) set → Ranks (A.meaning self.now.arena.now) (owner_number side) (present self.now.taken.now) (λ p. present self.now.taken.now p && set p) ranks.new }
+    {
+        mark(ranks, |p| is_present(self.taken, p) && is_target(p));
+        for i in 0..self.arena.positions() {
+            if !self.next_round(side, ranks, i) {
+                return;
+            }
         }
     }
 }

@@ -1,133 +1,157 @@
-ghost use Rattle.std.specs.Prelude.{◌+◌, ◌*◌, ◌<◌, ◌≤◌, [], ◌∷◌, ◌++◌, length};
+ghost use Rattle.std.specs.Prelude.{◌≡◌, ℕ, ◌+◌, ◌*◌, ◌<◌, false, ◌∷◌, ◌++◌, length, slice_index};
 ghost use Rattle.arena.specs.Bytes.{two};
-ghost use Rattle.solver.specs.Writing.{Band, GoalsFit, Put, Records, front_bytes, front_part, goal_bytes, goal_part};
+ghost use Rattle.arena.specs.Certificate.{certificate_bytes, record_bytes};
+ghost use Rattle.arena.specs.Sets.{concat, upto};
+ghost use Rattle.solver.specs.Certificate.{certificate, entry};
+ghost use Rattle.solver.specs.Solution.{final, goal_move, traffic_move};
+ghost use Rattle.solver.specs.Writing.{Field, Rows, front_bytes, goal_bytes};
 
-use super::attract::is_present;
-use super::decide::rank_in;
+use super::settled::Settled;
+use arena::Arena;
 
-// Two bytes.
-fn write_pair(out: &mut [u8], at: usize, x: u8, y: u8)
-    requires { at + 2 ≤ length out.old }
-    ensures { Put 2 at (x ∷ y ∷ []) out.old out.new }
+// The length of a record.
+fn record_bytes<A: Arena>(a: &A) -> usize
+    ensures { result ≡ record_bytes (A.meaning a.now) }
 {
-    out[at] = x;
-    out[at + 1] = y;
-}
-
-// A number in two bytes, the high byte first.
-fn write_two(out: &mut [u8], at: usize, x: u16)
-    requires { at + 2 ≤ length out.old }
-    ensures { Put 2 at (two x) out.old out.new }
-{
-    write_pair(out, at, (x / 256) as u8, (x % 256) as u8);
+    10 + 4 * usize::from(a.goals())
 }
 
 // The head, with the numbers of positions and goals.
-pub(crate) fn write_head(out: &mut [u8], n: u16, goals: u16)
-    requires { 6 ≤ length out.old }
-    ensures { Put 6 0 (0x43 ∷ 0x48 ∷ (two n ++ two goals)) out.old out.new }
+fn head(n: u16, goals: u16) -> [u8; 6]
+    ensures { result ≡ 0x43 ∷ 0x48 ∷ (two n ++ two goals) }
 {
-    write_pair(out, 0, 0x43, 0x48);
-    write_two(out, 2, n);
-    write_two(out, 4, goals);
+    let n = n.to_be_bytes();
+    let goals = goals.to_be_bytes();
+    [0x43, 0x48, n[0], n[1], goals[0], goals[1]]
 }
 
 // The end, with the number of positions.
-pub(crate) fn write_end(out: &mut [u8], at: usize, n: u16)
-    requires { at + 4 ≤ length out.old }
-    ensures { Put 4 at (0x43 ∷ 0x45 ∷ two n) out.old out.new }
+fn end(n: u16) -> [u8; 4]
+    ensures { result ≡ 0x43 ∷ 0x45 ∷ two n }
 {
-    write_pair(out, at, 0x43, 0x45);
-    write_two(out, at + 2, n);
+    let n = n.to_be_bytes();
+    [0x43, 0x45, n[0], n[1]]
 }
 
 // What stands in a record before the goals.
-fn write_front(out: &mut [u8], at: usize, side: u8, goal: u8, stage: u16, approach: u16, step: u16)
-    requires { at + 10 ≤ length out.old }
-    ensures { Put 10 at (front_bytes side goal stage approach step) out.old out.new }
+fn front(side: u8, goal: u8, stage: u16, approach: u16, step: u16) -> [u8; 10]
+    ensures { result ≡ front_bytes side goal stage approach step }
 {
-    write_pair(out, at, 0x43, 0x50);
-    write_pair(out, at + 2, side, goal);
-    write_two(out, at + 4, stage);
-    write_two(out, at + 6, approach);
-    write_two(out, at + 8, step);
+    let stage = stage.to_be_bytes();
+    let approach = approach.to_be_bytes();
+    let step = step.to_be_bytes();
+    [
+        0x43,
+        0x50,
+        side,
+        goal,
+        stage[0],
+        stage[1],
+        approach[0],
+        approach[1],
+        step[0],
+        step[1],
+    ]
 }
 
 // What stands in a record for a goal.
-fn write_goal(out: &mut [u8], at: usize, rank: u16, step: u16)
-    requires { at + 4 ≤ length out.old }
-    ensures { Put 4 at (goal_bytes rank step) out.old out.new }
+fn goal(rank: u16, step: u16) -> [u8; 4]
+    ensures { result ≡ goal_bytes rank step }
 {
-    write_two(out, at, rank);
-    write_two(out, at + 2, step);
+    let rank = rank.to_be_bytes();
+    let step = step.to_be_bytes();
+    [rank[0], rank[1], step[0], step[1]]
 }
 
-// The front of the record of position `p`.
-fn write_front_of(work: &[u16], n: u16, p: u16, out: &mut [u8], at: usize)
-    requires inside { p < n }
-    requires columns { 6 * n ≤ length work.now }
-    requires goals { GoalsFit n work.now }
-    requires fits { at + 10 ≤ length out.old }
-    ensures { Put 10 at (front_part n work.now p) out.old out.new }
-{
-    if is_present(work, n, p) {
-        write_front(out, at, 0, 0, 0, 0, 0);
-        return;
+impl<A: Arena> Settled<'_, A> {
+    // The front of the record of position `p`, from which the traffic takes the step.
+    fn front(&self, p: u16, step: u16) -> [u8; 10]
+        requires inside { p < (A.meaning self.now.arena.now).size }
+        requires told { final (A.meaning self.now.arena.now) p ≡ false → step ≡ traffic_move (A.meaning self.now.arena.now) p }
+        ensures { Field (A.meaning self.now.arena.now) p 0 10 result }
+    {
+        if self.is_kept(p) {
+            return front(0, 0, 0, 0, 0);
+        }
+        let p = usize::from(p);
+        let goal = self.goals[p] as u8;
+        front(1, goal, self.taken[p], self.approaches[p], step)
     }
-    let n = n as usize;
-    let p = p as usize;
-    let goal = work[n + p] as u8;
-    let stage = work[p];
-    let approach = work[2 * n + p];
-    let step = work[4 * n + p];
-    write_front(out, at, 1, goal, stage, approach, step);
-}
 
-// The goal with the ranks at `from` in the record of position `p`.
-fn write_goal_of(work: &[u16], n: u16, from: usize, p: u16, out: &mut [u8], at: usize)
-    requires inside { p < n }
-    requires columns { 6 * n ≤ length work.now }
-    requires source { from + n ≤ length work.now }
-    requires fits { at + 4 ≤ length out.old }
-    ensures { Put 4 at (goal_part n work.now from p) out.old out.new }
-{
-    if is_present(work, n, p) {
-        let step = work[5 * n as usize + p as usize];
-        write_goal(out, at, rank_in(work, from, p), step);
-        return;
+    // Goal `g` in the record of position `p`, from which the controller takes the step.
+    fn goal(&self, g: u16, p: u16, step: u16) -> [u8; 4]
+        requires goal { g < (A.meaning self.now.arena.now).goals }
+        requires inside { p < (A.meaning self.now.arena.now).size }
+        requires told { step ≡ goal_move (A.meaning self.now.arena.now) g p }
+        ensures { Field (A.meaning self.now.arena.now) p (10 + 4 * g) 4 result }
+    {
+        if self.is_kept(p) {
+            goal(self.rank(g, p), step)
+        } else {
+            goal(0, 0)
+        }
     }
-    write_goal(out, at, 0, 0);
-}
 
-// The fronts of all records, each of `width` bytes.
-pub(crate) fn write_fronts(work: &[u16], n: u16, out: &mut [u8], width: usize)
-    requires columns { 6 * n ≤ length work.now }
-    requires goals { GoalsFit n work.now }
-    requires rows { Records n width out.old }
-    requires off { 10 ≤ width }
-    ensures { Band n width 0 10 n (front_part n work.now) out.old out.new }
-{
-    for p in 0..n {
-        write_front_of(work, n, p, out, 6 + p as usize * width);
+    // The fronts of all records, one record after another.
+    fn write_fronts(&self, steps: &[u16], records: &mut [u8])
+        requires steps { length steps.now ≡ (A.meaning self.now.arena.now).size }
+        requires moves { (p : ℕ) → p < (A.meaning self.now.arena.now).size → final (A.meaning self.now.arena.now) p ≡ false → slice_index steps.now p ≡ traffic_move (A.meaning self.now.arena.now) p }
+        requires records { length records.old ≡ (A.meaning self.now.arena.now).size * record_bytes (A.meaning self.now.arena.now) }
+        ensures { Rows (A.meaning self.now.arena.now) 10 records.new }
+    {
+        let width = record_bytes(self.arena);
+        for p in 0..self.arena.positions() {
+            let at = usize::from(p) * width;
+            let front = self.front(p, steps[usize::from(p)]);
+            records[at..at + 10].copy_from_slice(&front);
+        }
     }
-}
 
-// The goal with the ranks at `from` in all records, at an offset.
-pub(crate) fn write_goals_of(
-    work: &[u16],
-    n: u16,
-    from: usize,
-    out: &mut [u8],
-    width: usize,
-    off: usize,
-)
-    requires columns { 6 * n ≤ length work.now }
-    requires source { from + n ≤ length work.now }
-    requires rows { Records n width out.old }
-    requires off { off + 4 ≤ width }
-    ensures { Band n width off 4 n (goal_part n work.now from) out.old out.new }
-{
-    for p in 0..n {
-        write_goal_of(work, n, from, p, out, 6 + p as usize * width + off);
+    // Goal `g` in all records, where those before it are written.
+    fn write_goal(&self, g: u16, choices: &[u16], records: &mut [u8])
+        requires goal { g < (A.meaning self.now.arena.now).goals }
+        requires choices { length choices.now ≡ (A.meaning self.now.arena.now).size }
+        requires moves { (p : ℕ) → p < (A.meaning self.now.arena.now).size → slice_index choices.now p ≡ goal_move (A.meaning self.now.arena.now) g p }
+        requires records { length records.old ≡ (A.meaning self.now.arena.now).size * record_bytes (A.meaning self.now.arena.now) }
+        requires before { Rows (A.meaning self.now.arena.now) (10 + 4 * g) records.old }
+        ensures { Rows (A.meaning self.now.arena.now) (10 + 4 * (g + 1)) records.new }
+    {
+        let width = record_bytes(self.arena);
+        let off = 10 + 4 * usize::from(g);
+        for p in 0..self.arena.positions() {
+            let at = usize::from(p) * width + off;
+            let goal = self.goal(g, p, choices[usize::from(p)]);
+            records[at..at + 4].copy_from_slice(&goal);
+        }
+    }
+
+    // All records.
+    fn write_records(&self, steps: &mut [u16], choices: &mut [u16], records: &mut [u8])
+        requires steps { length steps.old ≡ (A.meaning self.now.arena.now).size }
+        requires choices { length choices.old ≡ (A.meaning self.now.arena.now).size }
+        requires records { length records.old ≡ (A.meaning self.now.arena.now).size * record_bytes (A.meaning self.now.arena.now) }
+        ensures { records.new ≡ concat (entry (A.meaning self.now.arena.now)) (upto (A.meaning self.now.arena.now).size) }
+    {
+        self.decide_traffic(steps);
+        self.write_fronts(steps, records);
+        for g in 0..self.arena.goals() {
+            self.decide_goal(g, choices);
+            self.write_goal(g, choices, records);
+        }
+    }
+
+    // The certificate, in bytes of its length.
+    pub(crate) fn write(&self, steps: &mut [u16], choices: &mut [u16], out: &mut [u8])
+        requires steps { length steps.old ≡ (A.meaning self.now.arena.now).size }
+        requires choices { length choices.old ≡ (A.meaning self.now.arena.now).size }
+        requires out { length out.old ≡ certificate_bytes (A.meaning self.now.arena.now) }
+        ensures { out.new ≡ certificate (A.meaning self.now.arena.now) }
+    {
+        let n = self.arena.positions();
+        let (front, rest) = out.split_at_mut(6);
+        let (records, back) = rest.split_at_mut(usize::from(n) * record_bytes(self.arena));
+        front.copy_from_slice(&head(n, self.arena.goals()));
+        self.write_records(steps, choices, records);
+        back.copy_from_slice(&end(n));
     }
 }

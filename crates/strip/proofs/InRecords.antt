@@ -16,18 +16,18 @@ number_from bs i x a b = omega arith
 module _ (f : ℕ → List ℕ) (k : ℕ) (each : (p : ℕ) → length (f p) ≡ k) where
   pub length_concat : (i c : ℕ) → length (concat f (from i c)) ≡ c * k
   length_concat i zero = sym (zero-mul k)
-  length_concat i (suc c) = omega (arith, length-append (f i) (concat f (from (suc i) c)), each i, length_concat (suc i) c, suc-mul c k)
+  length_concat i (suc c) = omega (arith, length-append (f i) (concat f (from (i + 1) c)), each i, length_concat (i + 1) c, suc-mul c k)
 
   pub concat_at : (i c p o : ℕ) → p < c → o < k → get_or (concat f (from i c)) (p * k + o) 0 ≡ get_or (f (i + p)) o 0
   concat_at i zero p o h l = absurd (omega arith)
   concat_at i (suc c) zero o h l =
       let e : zero * k + o ≡ o = omega (arith, zero-mul k) in
       let a : i ≡ i + 0 = omega arith in
-      ap (λ x. get_or (f i ++ concat f (from (suc i) c)) x 0) e ∙ get_or_append_left (f i) (concat f (from (suc i) c)) 0 o (omega (arith, each i)) ∙ ap (λ x. get_or (f x) o 0) a
+      ap (λ x. get_or (f i ++ concat f (from (i + 1) c)) x 0) e ∙ get_or_append_left (f i) (concat f (from (i + 1) c)) 0 o (omega (arith, each i)) ∙ ap (λ x. get_or (f x) o 0) a
   concat_at i (suc c) (suc p) o h l =
       let e : suc p * k + o ≡ length (f i) + (p * k + o) = omega (arith, suc-mul p k, each i) in
-      let a : suc i + p ≡ i + suc p = omega arith in
-      ap (λ x. get_or (f i ++ concat f (from (suc i) c)) x 0) e ∙ get_or-append-add (f i) (concat f (from (suc i) c)) (p * k + o) 0 ∙ concat_at (suc i) c p o (omega arith) l ∙ ap (λ x. get_or (f x) o 0) a
+      let a : i + 1 + p ≡ i + suc p = omega arith in
+      ap (λ x. get_or (f i ++ concat f (from (i + 1) c)) x 0) e ∙ get_or-append-add (f i) (concat f (from (i + 1) c)) (p * k + o) 0 ∙ concat_at (i + 1) c p o (omega arith) l ∙ ap (λ x. get_or (f x) o 0) a
 
 -- what a head, records and an end hold
 module _ (f : ℕ → List ℕ) (k : ℕ) (each : (p : ℕ) → length (f p) ≡ k) (head end : List ℕ) (n : ℕ) where

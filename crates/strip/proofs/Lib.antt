@@ -1,5 +1,4 @@
 pub mod Passing
-pub mod Listing
 pub mod InRecords
 pub mod Strips
 pub mod Written

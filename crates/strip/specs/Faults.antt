@@ -1,7 +1,7 @@
 -- What it says that a strip has no fault: every field is there and right, and no byte follows the end. Either way the list
 -- of fields is gone through, and each field's test is a fact on the bytes there. These are proofs; they stand beside the
 -- definitions since an opened strip carries the laws of an arena as a proof.
-use Rattle.std.specs.Prelude.{◌≡◌, ℕ, zero, suc, ◌+◌, ◌-◌, ◌*◌, ◌^◌, ◌<◌, ◌≤◌, Bool, true, false, cond, ◌&&◌, ◌||◌, ltb, List, [], ◌∷◌, ◌++◌, map, length, Some, None, Option, ◌==◌, nat_eq, nat_le, nat_lt, refl}
+use Rattle.std.specs.Prelude.{◌≡◌, ℕ, zero, suc, ◌+◌, ◌-◌, ◌*◌, ◌^◌, ◌<◌, ◌≤◌, Bool, true, false, cond, ◌&&◌, ◌||◌, List, [], ◌∷◌, ◌++◌, map, length, Some, None, Option, ◌==◌, nat_le, nat_lt, refl}
 use Rattle.std.proofs.Common.{sym, ◌∙◌, ap, subst, ⊎_elim, arith}
 use Rattle.std.specs.List.{AllByRecursion}
 use Rattle.std.proofs.ByRecursion.{All-append}
@@ -18,27 +18,27 @@ all_split P (x ∷ xs) ys h = let r : AllByRecursion P xs × AllByRecursion P ys
 
 pub all_concat : {X : Type 0} (P : X → Type 0) (f : ℕ → List X) (i c : ℕ) → ((p : ℕ) → i ≤ p → p < i + c → AllByRecursion P (f p)) → AllByRecursion P (concat f (from i c))
 all_concat P f i zero h = tt
-all_concat P f i (suc c) h = All-append P (f i) (concat f (from (suc i) c)) (h i (omega arith) (omega arith)) (all_concat P f (suc i) c (λ p a b. h p (omega arith) (omega arith)))
+all_concat P f i (suc c) h = All-append P (f i) (concat f (from (i + 1) c)) (h i (omega arith) (omega arith)) (all_concat P f (i + 1) c (λ p a b. h p (omega arith) (omega arith)))
 
 all_concat_at : {X : Type 0} (P : X → Type 0) (f : ℕ → List X) (i c : ℕ) → AllByRecursion P (concat f (from i c)) → (p : ℕ) → i ≤ p → p < i + c → AllByRecursion P (f p)
 all_concat_at P f i zero h p a b = absurd (omega arith)
 all_concat_at P f i (suc c) h p a b =
-    let r : AllByRecursion P (f i) × AllByRecursion P (concat f (from (suc i) c)) = all_split P (f i) (concat f (from (suc i) c)) h in
+    let r : AllByRecursion P (f i) × AllByRecursion P (concat f (from (i + 1) c)) = all_split P (f i) (concat f (from (i + 1) c)) h in
     ⊎_elim
     (λ (e : i ≡ p). subst (λ (z : ℕ). AllByRecursion P (f z)) e r.0)
-    (λ (ne : i ≡ p → ⊥). all_concat_at P f (suc i) c r.1 p (omega arith) (omega arith))
+    (λ (ne : i ≡ p → ⊥). all_concat_at P f (i + 1) c r.1 p (omega arith) (omega arith))
     (cases_eq i p)
 
 all_map_from : {X : Type 0} (P : X → Type 0) (f : ℕ → X) (i c : ℕ) → ((p : ℕ) → i ≤ p → p < i + c → P (f p)) → AllByRecursion P (map f (from i c))
 all_map_from P f i zero h = tt
-all_map_from P f i (suc c) h = (h i (omega arith) (omega arith), all_map_from P f (suc i) c (λ p a b. h p (omega arith) (omega arith)))
+all_map_from P f i (suc c) h = (h i (omega arith) (omega arith), all_map_from P f (i + 1) c (λ p a b. h p (omega arith) (omega arith)))
 
 all_map_from_at : {X : Type 0} (P : X → Type 0) (f : ℕ → X) (i c : ℕ) → AllByRecursion P (map f (from i c)) → (p : ℕ) → i ≤ p → p < i + c → P (f p)
 all_map_from_at P f i zero h p a b = absurd (omega arith)
 all_map_from_at P f i (suc c) h p a b =
     ⊎_elim
     (λ (e : i ≡ p). subst (λ (z : ℕ). P (f z)) e h.0)
-    (λ (ne : i ≡ p → ⊥). all_map_from_at P f (suc i) c h.1 p (omega arith) (omega arith))
+    (λ (ne : i ≡ p → ⊥). all_map_from_at P f (i + 1) c h.1 p (omega arith) (omega arith))
     (cases_eq i p)
 
 -- a field is there and right
@@ -118,8 +118,8 @@ module _ (bs : List ℕ) (n k o : ℕ) where
         ltb-true (number bs (move_at o j)) n b.0,
         λ pos.
             ⊎_elim
-            (λ (z : nat_eq j 0 ≡ true). let zz : j ≡ 0 = eqb-true j 0 z in absurd (omega arith))
-            (λ (z : ltb (number bs (move_at o j - 2)) (number bs (move_at o j)) ≡ true). ltb-true (number bs (move_at o j - 2)) (number bs (move_at o j)) z)
+            (λ (z : j == 0 ≡ true). let zz : j ≡ 0 = eqb-true j 0 z in absurd (omega arith))
+            (λ (z : nat_lt (number bs (move_at o j - 2)) (number bs (move_at o j)) ≡ true). ltb-true (number bs (move_at o j - 2)) (number bs (move_at o j)) z)
             (or_cases (j == 0) (nat_lt (number bs (move_at o j - 2)) (number bs (move_at o j))) b.1),
       )
 

@@ -1,26 +1,17 @@
 -- A strip that opens draws an arena: the proof that an opened strip carries.
-use Rattle.std.specs.Prelude.{◌≡◌, ℕ, zero, suc, ◌+◌, ◌-◌, ◌*◌, ◌<◌, ◌≤◌, true, false, not, ◌&&◌, List, map, length, Some, None, Option, ◌==◌, nat_eq, slice_index, slice_index_or, refl}
-use Rattle.std.proofs.Common.{ap, ◌∙◌, ⊎_elim, arith}
+use Rattle.std.specs.Prelude.{◌≡◌, ℕ, zero, suc, ◌+◌, ◌-◌, ◌*◌, ◌<◌, ◌≤◌, true, false, not, ◌&&◌, List, length, Some, None, Option, ◌==◌, slice_index, slice_index_or, refl}
+use Rattle.std.proofs.Common.{ap, ⊎_elim, arith}
 use Rattle.std.proofs.lemmas.List.{get_or_past}
+use Rattle.std.proofs.lemmas.List.FromFn.{length-map-range_with_len, get_or-map-range_with_len}
 use Rattle.std.proofs.lemmas.Bool.{both_ways, cases_lt, eqb-true, eqb-false, and_parts, or_cases, not-true}
 use Rattle.arena.specs.Arena.{Lawful}
 use Rattle.arena.specs.Bytes.{byte, number}
-use Rattle.arena.specs.Sets.{from, least, holds}
+use Rattle.arena.specs.Sets.{least, holds}
 use Rattle.arena.proofs.Basics.{least_none}
 use Rattle.strip.specs.Strip.{size, goals, row_at, move_at, moves_at, row_from, bare, drawn, fault, openable}
 use Rattle.strip.specs.Faults.{RowRight, Sound, sound}
 
--- the list of f at i, i + 1, ..
 module _ (f : ℕ → ℕ) where
-  length_listed : (i c : ℕ) → length (map f (from i c)) ≡ c
-  length_listed i zero = refl
-  length_listed i (suc c) = ap suc (length_listed (suc i) c)
-
-  listed_at : (i c j : ℕ) → j < c → slice_index (map f (from i c)) j ≡ f (i + j)
-  listed_at i zero j l = absurd (omega arith)
-  listed_at i (suc c) zero l = let e : i ≡ i + 0 = omega arith in ap f e
-  listed_at i (suc c) (suc j) l = let e : suc i + j ≡ i + suc j = omega arith in listed_at (suc i) c j (omega arith) ∙ ap f e
-
   -- what rises at each step rises over any distance
   module _ (n : ℕ) (up : (j : ℕ) → 0 < j → j < n → f (j - 1) < f j) where
     climbs : (i d : ℕ) → i + suc d < n → f i < f (i + suc d)
@@ -40,12 +31,10 @@ module _ (f : ℕ → ℕ) where
 -- the moves of the record at offset o, as a list
 module _ (bs : List ℕ) (o : ℕ) where
   pub moves_count : length (row_from bs o).moves ≡ moves_at bs o
-  moves_count = length_listed (λ j. number bs (move_at o j)) 0 (moves_at bs o)
+  moves_count = length-map-range_with_len (λ j. number bs (move_at o j)) 0 (moves_at bs o)
 
   pub move_is : (j : ℕ) → j < moves_at bs o → slice_index (row_from bs o).moves j ≡ number bs (move_at o j)
-  move_is j l =
-      let e : 0 + j ≡ j = omega arith in
-      listed_at (λ i. number bs (move_at o i)) 0 (moves_at bs o) j l ∙ ap (λ i. number bs (move_at o i)) e
+  move_is j l = get_or-map-range_with_len (λ i. number bs (move_at o i)) 0 (moves_at bs o) j j 0 l (omega arith)
 
   -- the moves of a record without a fault rise
   pub moves_rise : (n k : ℕ) → RowRight bs n k o → (i j : ℕ) → i < j → j < moves_at bs o → number bs (move_at o i) < number bs (move_at o j)
@@ -66,7 +55,7 @@ module _ (bs : List ℕ) (h : openable bs ≡ true) where
   parts : (p : ℕ) → p < size bs → Sound bs × ((q : ℕ) → q < size bs → bare bs q ≡ false)
   parts p l =
       ⊎_elim
-      (λ (e : nat_eq (length bs) 0 ≡ true).
+      (λ (e : (length bs == 0) ≡ true).
       let none : length bs ≡ 0 = eqb-true (length bs) 0 e in
       absurd (omega (arith, get_or_past bs 2 0 (omega arith), get_or_past bs 3 0 (omega arith))))
       (λ (e : (not (holds (fault bs)) && not (holds (least (bare bs) (size bs)))) ≡ true).

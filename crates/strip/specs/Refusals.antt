@@ -10,9 +10,13 @@ abbrev pub place_of : Result (Unit {0}) StripFault → Option ℕ
 place_of (Ok _) = None
 place_of (Err f) = Some f.place
 
--- a strip's fault is number 13 and names its place; a row without moves is number 11 and names its position
+-- a strip's fault is number 13 and names its place
+abbrev pub strip_refusal : {A : Type 0} → StripFault → Outcome A
+strip_refusal f = refused 13 (f.place ∷ [])
+
+-- a strip that does not open is refused by its fault; a row without moves is number 11 and names its position
 abbrev pub open_refusal : {A : Type 0} → OpenFault → Outcome A
-open_refusal (Strip f) = refused 13 (f.place ∷ [])
+open_refusal (Strip f) = strip_refusal f
 open_refusal (NoMoves position) = refused 11 (position ∷ [])
 
 -- what open answers, as an outcome

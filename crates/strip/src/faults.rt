@@ -1,5 +1,9 @@
 ghost use Rattle.strip.specs.declared.faults.OpenFault.TheVariants.{Strip};
 ghost use Rattle.std.specs.Prelude.{◌≡◌};
+ghost use Rattle.arena.specs.Told.{Same};
+ghost use Rattle.strip.specs.Refusals.{open_refusal, strip_refusal};
+
+use arena::Refusal;
 
 /// A strip's fault: the place is the offset of the first field that is cut off or wrong, or of the first byte after the
 /// end. It travels whole, inside the fault of each call above.
@@ -22,5 +26,24 @@ impl From<StripFault> for OpenFault {
 
     fn from(e: StripFault) -> OpenFault {
         OpenFault::Strip(e)
+    }
+}
+
+impl From<StripFault> for Refusal {
+    ghost from_gives = { λ e r. Same r (strip_refusal e) };
+
+    fn from(e: StripFault) -> Refusal {
+        Refusal::naming(13, e.place)
+    }
+}
+
+impl From<OpenFault> for Refusal {
+    ghost from_gives = { λ e r. Same r (open_refusal e) };
+
+    fn from(e: OpenFault) -> Refusal {
+        match e {
+            OpenFault::Strip(fault) => Refusal::from(fault),
+            OpenFault::NoMoves(position) => Refusal::naming(11, position as usize),
+        }
     }
 }

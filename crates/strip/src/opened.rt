@@ -1,12 +1,13 @@
-ghost use Rattle.std.specs.Prelude.{◌≡◌, ℕ, ◌+◌, ◌*◌, ◌<◌, ◌≤◌, true, [], length, Some, None, MatchResult, slice_index};
+ghost use Rattle.std.specs.Prelude.{◌≡◌, ℕ, ◌^◌, ◌<◌, ◌≤◌, true, [], length, MatchOption, MatchResult};
 ghost use Rattle.arena.specs.Refusals.{after, done, told};
 ghost use Rattle.arena.specs.Sets.{least};
 ghost use Rattle.strip.specs.Laws.{lawful_strip};
 ghost use Rattle.strip.specs.Refusals.{open_outcome};
-ghost use Rattle.strip.specs.Strip.{bare, drawn, open_answer, openable, row_at, row_read};
+ghost use Rattle.strip.specs.Strip.{bare, drawn, open_answer, openable, row_at, row_from, size};
 
 use crate::faults::OpenFault;
 use crate::fields::inspect;
+use crate::layout::record_at;
 use arena::{Arena, byte_at, number_at};
 use row::has_mark;
 
@@ -27,26 +28,21 @@ impl<'a> OpenedStrip<'a> {
     }
 }
 
-/// Where the record of position `p` begins.
-fn record_at(p: u16) -> usize
-    ensures { result ≡ row_at p }
+/// How many moves the record at a place has.
+fn count_at(bytes: &[u8], at: usize) -> u16
+    requires { at < 2 ^ 32 }
+    ensures { result ≡ length (row_from bytes.now at).moves }
 {
-    6 + 38 * p as usize
+    number_at(bytes, at + 4)
 }
 
-/// How many moves the record of position `p` has.
-fn count_at(bytes: &[u8], p: u16) -> u16
-    ensures { result ≡ length (row_read bytes.now p).moves }
-{
-    number_at(bytes, record_at(p) + 4)
-}
-
-/// The `j`-th move of the record of position `p`, which has more moves than that.
-fn move_at(bytes: &[u8], p: u16, j: u16) -> u16
-    requires { j < length (row_read bytes.now p).moves }
-    ensures { result ≡ slice_index (row_read bytes.now p).moves j }
-{
-    number_at(bytes, record_at(p) + (6 + 2 * j as usize))
+impl OpenedStrip<'_> {
+    /// Where the record of position `p` begins, if there is such a position.
+    fn row(&self, p: u16) -> Option<usize>
+        ensures { MatchOption result (size self.now.bytes.now ≤ p) (λ at. (p < size self.now.bytes.now) × (at ≡ row_at p)) }
+    {
+        (p < self.positions()).then_some(record_at(p))
+    }
 }
 
 impl Arena for OpenedStrip<'_> {
@@ -63,37 +59,29 @@ impl Arena for OpenedStrip<'_> {
     }
 
     fn owner(&self, p: u16) -> Option<u16> {
-        if p >= self.positions() {
-            return None;
-        }
-        Some(byte_at(self.bytes, record_at(p) + 2) as u16)
+        let at = self.row(p)?;
+        Some(byte_at(self.bytes, at + 2) as u16)
     }
 
     fn marked(&self, p: u16, g: u16) -> Option<bool> {
-        if p >= self.positions() {
-            return None;
-        }
+        let at = self.row(p)?;
         if g >= self.goals() {
             return None;
         }
-        Some(has_mark(byte_at(self.bytes, record_at(p) + 3), g))
+        Some(has_mark(byte_at(self.bytes, at + 3), g))
     }
 
     fn move_count(&self, p: u16) -> Option<u16> {
-        if p >= self.positions() {
-            return None;
-        }
-        Some(count_at(self.bytes, p))
+        let at = self.row(p)?;
+        Some(count_at(self.bytes, at))
     }
 
     fn nth_move(&self, p: u16, j: u16) -> Option<u16> {
-        if p >= self.positions() {
+        let at = self.row(p)?;
+        if j >= count_at(self.bytes, at) {
             return None;
         }
-        if j >= count_at(self.bytes, p) {
-            return None;
-        }
-        Some(move_at(self.bytes, p, j))
+        Some(number_at(self.bytes, at + (6 + 2 * j as usize)))
     }
 }
 
@@ -101,12 +89,7 @@ impl Arena for OpenedStrip<'_> {
 fn lowest_bare(bytes: &[u8], n: u16) -> Option<u16>
     ensures { result ≡ least (bare bytes.now) n }
 {
-    for p in 0..n {
-        if count_at(bytes, p) == 0 {
-            return Some(p);
-        }
-    }
-    None
+    (0..n).find(|p| count_at(bytes, record_at(*p)) == 0)
 }
 
 /// Makes the bytes those of the opened strip, which is then the arena that their rows draw. Refused by the strip's fault,

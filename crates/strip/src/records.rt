@@ -1,52 +1,43 @@
-ghost use Rattle.std.specs.Prelude.{◌≡◌, ℕ, ◌<◌, ◌≤◌, length, slice_index};
+ghost use Rattle.std.specs.Prelude.{◌≡◌, ℕ, ◌<◌, length, slice_index};
 ghost use Rattle.arena.specs.Bytes.{number};
-ghost use Rattle.row.specs.RowModel.{owner_number};
 ghost use Rattle.strip.specs.Reading.{read_outcome};
 ghost use Rattle.strip.specs.Strip.{move_at, row_in};
 
-use crate::fields::record;
-use arena::{byte_at, number_at};
-use row::{Owner, Row};
+use crate::fields::Record;
+use arena::{Owner, byte_at, number_at};
+use row::{RECORD_BYTES, Row};
+use std::array;
 
-/// The owner that a byte stands for.
-fn owner_in(byte: u8) -> Owner
-    ensures { byte ≤ 1 → owner_number result ≡ byte }
-{
-    if byte == 0 {
-        Owner::Controller
-    } else {
-        Owner::Traffic
-    }
-}
-
-/// The moves of a record: the first so many two-byte numbers, and then zeros.
-fn moves_in(bytes: &[u8], count: usize) -> [u16; 16]
-    requires { count ≤ 16 }
+/// The sixteen moves of a record, used or not.
+fn moves_in(bytes: &[u8]) -> [u16; 16]
     ensures wide { length result ≡ 16 }
-    ensures used { (j : ℕ) → j < count → slice_index result j ≡ number bytes.now (move_at 0 j) }
-    ensures unused { (j : ℕ) → count ≤ j → slice_index result j ≡ 0 }
+    ensures each { (j : ℕ) → j < 16 → slice_index result j ≡ number bytes.now (move_at 0 j) }
 {
-    let mut moves = [0; 16];
-    for j in 0..count {
-        moves[j] = number_at(bytes, 6 + 2 * j);
-    }
-    moves
+    array::from_fn(|j| number_at(bytes, 6 + 2 * j))
 }
 
-/// The row that the bytes of one record of the right length store.
+/// The row that the bytes of one record of the right length store. The unused moves of a record are zero, as a row's are.
 fn stored(bytes: &[u8]) -> Option<Row>
     requires { length bytes.now ≡ 38 }
     ensures { read_outcome result ≡ row_in bytes.now }
 {
-    let Ok(_) = record(bytes, 65536, 8, 0) else {
+    let record = Record {
+        bytes,
+        positions: 65536,
+        goals: 8,
+        offset: 0,
+    };
+    let Ok(_) = record.inspect() else {
         return None;
     };
-    let count = number_at(bytes, 4) as usize;
+    let Ok(owner) = Owner::try_from(byte_at(bytes, 2)) else {
+        return None;
+    };
     Some(Row {
-        owner: owner_in(byte_at(bytes, 2)),
+        owner,
         marks: byte_at(bytes, 3),
-        count,
-        moves: moves_in(bytes, count),
+        count: number_at(bytes, 4) as usize,
+        moves: moves_in(bytes),
     })
 }
 
@@ -54,7 +45,7 @@ fn stored(bytes: &[u8]) -> Option<Row>
 pub fn read_row(bytes: &[u8]) -> Option<Row>
     ensures { read_outcome result ≡ row_in bytes.now }
 {
-    if bytes.len() != 38 {
+    if bytes.len() != RECORD_BYTES {
         return None;
     }
     stored(bytes)

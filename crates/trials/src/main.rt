@@ -1,7 +1,8 @@
 #![tactic(auto)]
 
-use anyhow::anyhow;
-use control::{CheckFault, RunFault, Runner, check};
+use anyhow::bail;
+use arena::Refusal;
+use control::{RunFault, Runner, check};
 use std::fs;
 use strip::{OpenedStrip, open};
 
@@ -9,15 +10,7 @@ use strip::{OpenedStrip, open};
 fn say(rt: &HostRuntime, arena: &OpenedStrip, certificate: &[u8]) -> anyhow::Result<()> {
     match check(arena, certificate) {
         Ok(c) => println!(rt; " accepted {c}")?,
-        Err(fault) => {
-            let number = fault.number();
-            match fault {
-                CheckFault::Clause { clause, position } => println!(rt;
-                    " refused {number} {clause} {position}"
-                )?,
-                _ => println!(rt; " refused {number}")?,
-            }
-        }
+        Err(fault) => println!(rt; " {}", Refusal::from(fault))?,
     }
     Ok(())
 }
@@ -40,10 +33,7 @@ fn damage(rt: &HostRuntime, arena: &OpenedStrip, certificate: &mut [u8]) -> anyh
 fn tell(rt: &HostRuntime, answer: Result<(u16, u16), RunFault>) -> anyhow::Result<()> {
     match answer {
         Ok((position, aim)) => println!(rt; " at {position} aim {aim}")?,
-        Err(fault) => {
-            let number = fault.number();
-            println!(rt; " refused {number}")?;
-        }
+        Err(fault) => println!(rt; " {}", Refusal::from(fault))?,
     }
     Ok(())
 }
@@ -76,35 +66,28 @@ fn steer(
 fn judge(rt: &HostRuntime, name: &str) -> anyhow::Result<()> {
     let bytes = fs::read(rt, format!(in rt.alloc(); "{name}.strip")?)?;
     let mut arena = OpenedStrip::empty();
-    if open(bytes.as_slice(), &mut arena).is_err() {
-        return Err(anyhow!("a strip of the list does not open"));
+    if open(&bytes, &mut arena).is_err() {
+        bail!("a strip of the list does not open");
     }
     let mut certificate = fs::read(rt, format!(in rt.alloc(); "{name}.certificate")?)?;
     print!(rt; "certificate {name}")?;
-    say(rt, &arena, certificate.as_slice())?;
+    say(rt, &arena, &certificate)?;
     print!(rt; "short")?;
-    let last = certificate.pop();
-    say(rt, &arena, certificate.as_slice())?;
-    if let Some(byte) = last {
-        certificate.push(byte)?;
-    }
+    let short = certificate.len().saturating_sub(1);
+    say(rt, &arena, &certificate[..short])?;
     print!(rt; "long")?;
     certificate.push(0)?;
-    say(rt, &arena, certificate.as_slice())?;
+    say(rt, &arena, &certificate)?;
     let _ = certificate.pop();
     damage(rt, &arena, certificate.as_mut_slice())?;
     steer(rt, Runner::new(arena), certificate.as_mut_slice())
 }
 
 /// Goes through the certificates that the list names.
-fn run(rt: &HostRuntime) -> anyhow::Result<()> {
-    let names = fs::read_to_string(rt, "list")?;
+fn main(rt: HostRuntime) -> anyhow::Result<()> {
+    let names = fs::read_to_string(&rt, "list")?;
     for name in names.as_str().lines() {
-        judge(rt, name)?;
+        judge(&rt, name)?;
     }
     Ok(())
-}
-
-fn main(rt: HostRuntime) -> anyhow::Result<()> {
-    run(&rt)
 }

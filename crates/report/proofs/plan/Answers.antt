@@ -4,12 +4,11 @@ use Rattle.report.specs.Plan.{decision_text}
 use Rattle.report.proofs.Rows.{concat_more}
 use Rattle.report.proofs.plan.Goals as goal
 
-pub loop-p-preserved : goal.loop-p-preserved
-loop-p-preserved g c =
-    let m = g.A.Arena.meaning c.args.arena.now in
-    let bs = c.args.bytes.now in
-    let p = c.loop-p.p in
-    let more = concat_more (decision_text m bs) p in
-    let put = c.in_ok-push_decision.ensures in
-    let joined = append_assoc (string_bytes c.in_ok-out.out) (concat (decision_text m bs) (upto p)) (decision_text m bs p) in
+pub loop-position-preserved : goal.loop-position-preserved
+loop-position-preserved g c =
+    let line = decision_text (g.A.Arena.meaning c.args.arena.now) c.args.bytes.now in
+    let p = c.loop-position.position in
+    let more = concat_more line p in
+    let put = c.in_ok-write.ensures.bytes in
+    let joined = append_assoc (string_bytes c.in_ok-out.out) (concat line (upto p)) (line p) in
     cc

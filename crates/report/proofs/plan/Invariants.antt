@@ -3,5 +3,6 @@ use Rattle.arena.specs.Sets.{upto, concat}
 use Rattle.report.specs.Plan.{decision_text}
 use Rattle.report.proofs.plan.Given as goal
 
-abbrev pub invariant-loop-p : goal.invariant-loop-p
-invariant-loop-p g l = string_bytes l.out ≡ string_bytes l.initial.out ++ concat (decision_text (g.A.Arena.meaning l.arena) l.bytes) (upto l.p)
+abbrev pub invariant-loop-position : goal.invariant-loop-position
+invariant-loop-position g l =
+    string_bytes l.out ≡ string_bytes l.initial.out ++ concat (decision_text (g.A.Arena.meaning l.certificate.arena.now) l.certificate.bytes.now) (upto l.position)

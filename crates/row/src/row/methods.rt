@@ -1,21 +1,11 @@
 ghost use Rattle.std.specs.Prelude.{◌≡◌, ℕ};
-ghost use Rattle.row.specs.RowModel.{owner_number, row_of};
+ghost use Rattle.arena.specs.Owners.{owner_number};
+ghost use Rattle.row.specs.RowModel.{row_of};
 ghost use Rattle.row.specs.Rows.{empty, has_mark};
 
 use crate::marks::has_mark;
-use crate::row::{Owner, Row};
-
-impl Owner {
-    /// The owner's number: 0 for the controller, 1 for the traffic.
-    pub fn number(self) -> u16
-        ensures { result ≡ owner_number self }
-    {
-        match self {
-            Owner::Controller => 0,
-            Owner::Traffic => 1,
-        }
-    }
-}
+use crate::row::Row;
+use arena::Owner;
 
 impl Row {
     /// The empty row: the controller's, unmarked, without moves.

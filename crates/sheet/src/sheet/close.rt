@@ -1,7 +1,6 @@
 ghost use Rattle.std.specs.Prelude.{◌≡◌, ℕ, None, MatchResult};
 ghost use Rattle.arena.specs.Refusals.{done, told};
 ghost use Rattle.sheet.specs.Outcomes.{close_outcome};
-ghost use Rattle.sheet.specs.SheetModel.{sheet_of};
 ghost use Rattle.sheet.specs.Sheets.{arena_of, close_answer, lowest_bare};
 ghost use Rattle.sheet.specs.Slots.{arena_drawn};
 
@@ -13,15 +12,16 @@ use sheet_faults::CloseFault;
 impl Sheet {
     /// The lowest row without moves.
     fn lowest_bare(&self) -> Option<u16>
-        ensures { result ≡ lowest_bare (sheet_of self.now) }
+        ensures { result ≡ lowest_bare self.now }
     {
-        first_bare(self.slots.as_slice())
+        let p = first_bare(self.slots.as_slice())?;
+        Some(p as u16)
     }
 
     /// Fills the closed sheet with the rows, which all have moves.
     fn lend_to<'a>(&'a self, into: &mut ClosedSheet<'a>)
-        requires { lowest_bare (sheet_of self.now) ≡ None }
-        ensures { arena_drawn into.new.goals into.new.slots.now ≡ arena_of (sheet_of self.now) }
+        requires { lowest_bare self.now ≡ None }
+        ensures { arena_drawn into.new.goals into.new.slots.now ≡ arena_of self.now }
     {
         into.goals = self.goals;
         into.slots = self.slots.as_slice();
@@ -30,8 +30,8 @@ impl Sheet {
     /// Closes the sheet: fills the closed sheet, which is then the arena that the rows draw. Refused while a row is out,
     /// and then where a row has no moves; the closed sheet is then left as it was.
     pub fn close<'a>(&'a self, into: &mut ClosedSheet<'a>) -> Result<(), CloseFault>
-        ensures answer { close_outcome result ≡ told (λ _. done) (close_answer (sheet_of self.now)) }
-        ensures fills { MatchResult result (λ _. arena_drawn into.new.goals into.new.slots.now ≡ arena_of (sheet_of self.now)) (λ _. into.new ≡ into.old) }
+        ensures answer { close_outcome result ≡ told (λ _. done) (close_answer self.now) }
+        ensures fills { MatchResult result (λ _. arena_drawn into.new.goals into.new.slots.now ≡ arena_of self.now) (λ _. into.new ≡ into.old) }
     {
         if let Some(p) = self.lowest_out() {
             return Err(CloseFault::RowOut(p));

@@ -1,81 +1,89 @@
-ghost use Rattle.std.specs.Prelude.{◌≡◌, ℕ, ◌^◌, ◌<◌, ◌≤◌, true, vec_len, nat_lt};
+ghost use Rattle.std.specs.Prelude.{◌≡◌, ◌≢◌, Some, ℕ, ◌^◌, ◌<◌, ◌≤◌, true, nat_lt, slice_index};
 ghost use Rattle.arena.specs.Sets.{all};
 ghost use Rattle.row.specs.RowModel.{row_of};
-ghost use Rattle.sheet.specs.SheetModel.{sheet_of};
+ghost use Rattle.sheet.specs.Seats.{seat_or_none};
 ghost use Rattle.sheet.specs.Sheets.{is_out, lent, lowest_out, new, out_to, row_on, stored};
 
 use crate::sheet::Sheet;
 use crate::slip::Slip;
-use crate::slots::{fill_empty, first_out, row_of, seat_at, set_row, set_seat};
+use crate::slot::Slot;
+use crate::slots::{fill_empty, first_out};
 use row::Row;
 
 impl Sheet {
     /// The number of positions.
-    pub(crate) fn size(&self) -> usize
-        ensures { result ≡ (sheet_of self.now).size }
+    pub(crate) fn size(&self) -> u16
+        ensures { result ≡ self.now.size }
     {
-        self.slots.len()
+        self.slots.len() as u16
     }
 
     /// The lowest row that is out.
     pub(crate) fn lowest_out(&self) -> Option<u16>
-        ensures { result ≡ lowest_out (sheet_of self.now) }
+        ensures { result ≡ lowest_out self.now }
     {
-        first_out(self.slots.as_slice())
+        let p = first_out(self.slots.as_slice())?;
+        Some(p as u16)
+    }
+
+    /// The slot of position `p`.
+    fn slot(&self, p: u16) -> &Slot
+        requires { p < self.now.size }
+        ensures row { row_of result.now.row ≡ row_on self.now p }
+        ensures seat { seat_or_none result.now.holder ≡ slice_index self.now.out p }
+        ensures seated { result.now.holder ≢ Some 0 }
+    {
+        &self.slots[p as usize]
     }
 
     /// Whether the row of position `p` is out.
     pub(crate) fn is_out(&self, p: u16) -> bool
-        requires { p < (sheet_of self.now).size }
-        ensures { result ≡ is_out (sheet_of self.now) p }
+        requires { p < self.now.size }
+        ensures { result ≡ is_out self.now p }
     {
-        seat_at(self.slots.as_slice(), p) != 0
+        self.slot(p).holder.is_some()
     }
 
     /// Whether the row of the slip's position is out to its seat.
     pub(crate) fn is_out_to(&self, slip: &Slip) -> bool
-        ensures { result ≡ out_to (sheet_of self.now) slip.now.seat slip.now.position }
+        ensures { result ≡ out_to self.now slip.now.seat slip.now.position }
     {
-        let seat = slip.seat();
         let p = slip.position();
-        if p as usize >= self.size() {
-            return false;
-        }
-        let holder = seat_at(self.slots.as_slice(), p);
-        0 < seat && holder == seat
+        p < self.size() && self.slot(p).holder == Some(slip.seat())
     }
 
     /// The row of position `p`.
     pub(crate) fn row(&self, p: u16) -> Row
-        requires { p < (sheet_of self.now).size }
-        ensures { row_of result ≡ row_on (sheet_of self.now) p }
+        requires { p < self.now.size }
+        ensures { row_of result ≡ row_on self.now p }
     {
-        row_of(self.slots.as_slice(), p)
+        self.slot(p).row
     }
 
     /// Lends the row of position `p` to a seat, or takes it back.
-    pub(crate) fn lend(&mut self, p: u16, seat: u8)
-        requires { p < (sheet_of self.old).size }
-        ensures { sheet_of self.new ≡ lent (sheet_of self.old) p seat }
+    pub(crate) fn lend(&mut self, p: u16, holder: Option<u8>)
+        requires inside { p < self.old.size }
+        requires seated { holder ≢ Some 0 }
+        ensures { self.new ≡ lent self.old p (seat_or_none holder) }
     {
-        set_seat(&mut self.slots, p, seat);
+        self.slots[p as usize].holder = holder;
     }
 
     /// Stores a row as that of position `p`, and takes it back.
     pub(crate) fn store(&mut self, p: u16, row: Row)
-        requires inside { p < (sheet_of self.old).size }
-        requires moves { all (λ q. nat_lt q (sheet_of self.old).size) (row_of row).moves ≡ true }
-        requires marks { (row_of row).marks < 2 ^ (sheet_of self.old).goals }
-        ensures { sheet_of self.new ≡ stored (sheet_of self.old) p (row_of row) }
+        requires inside { p < self.old.size }
+        requires moves { all (λ q. nat_lt q self.old.size) (row_of row).moves ≡ true }
+        requires marks { (row_of row).marks < 2 ^ self.old.goals }
+        ensures { self.new ≡ stored self.old p (row_of row) }
     {
-        set_row(&mut self.slots, p, row);
+        self.slots[p as usize] = Slot { row, holder: None };
     }
 
     /// Makes the sheet a new one.
     pub(crate) fn reshape(&mut self, n: u16, k: u16)
         requires positions { (0 < n) × (n ≤ 512) }
         requires goals { (0 < k) × (k ≤ 8) }
-        ensures { sheet_of self.new ≡ new n k }
+        ensures { self.new ≡ new n k }
     {
         fill_empty(&mut self.slots, n);
         self.goals = k;

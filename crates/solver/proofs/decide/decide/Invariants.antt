@@ -1,18 +1,20 @@
-use Rattle.std.proofs.Common.{◌≡◌, ◌-◌, ◌≤◌, drop}
+use Rattle.std.proofs.Common.{◌≡◌, ℕ, ◌<◌, Bool, drop, slice_index}
+use Rattle.arena.specs.Arena.{moves_answer}
 use Rattle.arena.specs.Certificate.{no_move}
+use Rattle.arena.specs.Owners.{owner_number}
 use Rattle.arena.specs.Sets.{first}
-use Rattle.solver.specs.Columns.{Column}
-use Rattle.solver.specs.Deciding.{qualifies, decision}
+use Rattle.arena.proofs.Basics.{In}
+use Rattle.solver.specs.Deciding.{StepsBelow, decision}
 use Rattle.solver.proofs.decide.decide.Given as goal
 
+abbrev pub invariant-loop-q : goal.invariant-loop-q
+invariant-loop-q g l =
+    (goal.iterator-loop-q g).can_next l.moves
+    × (goal.iterator-loop-q g).is_finite l.moves
+    × ((x : ℕ) → In x (drop l.moves.next (moves_answer (g.A.Arena.meaning l.moves.arena.now) l.moves.position)) → x < (g.A.Arena.meaning l.a).size)
+    × ((test : ℕ → ℕ → Bool) → StepsBelow (g.A.Arena.meaning l.a).size (goal.F-post g l.is_qualified) test → first (test l.p) no_move (drop l.moves.next (moves_answer (g.A.Arena.meaning l.moves.arena.now) l.moves.position)) ≡ first (test l.p) no_move ((g.A.Arena.meaning l.a).moves l.p))
+
 abbrev pub invariant-positions : goal.invariant-positions
-invariant-positions g l = Column l.p l.at (decision (g.A.Arena.meaning l.a) l.initial.work l.side l.from) l.initial.work l.work
-
-abbrev pub invariant-loop-j : goal.invariant-loop-j
-invariant-loop-j g l =
-    (l.j ≤ l.count)
-    × (first (qualifies (g.A.Arena.meaning l.a).size l.work l.side l.from l.p) no_move (drop l.j ((g.A.Arena.meaning l.a).moves l.p))
-    ≡ first (qualifies (g.A.Arena.meaning l.a).size l.work l.side l.from l.p) no_move ((g.A.Arena.meaning l.a).moves l.p))
-
-abbrev pub decreases-loop-j : goal.decreases-loop-j
-decreases-loop-j g l = l.count - l.j
+invariant-positions g l =
+    (test : ℕ → ℕ → Bool) → StepsBelow (g.A.Arena.meaning l.a).size (goal.F-post g l.is_qualified) test
+    → (k : ℕ) → k < l.p → slice_index l.steps k ≡ decision (g.A.Arena.meaning l.a) (owner_number l.side) test k

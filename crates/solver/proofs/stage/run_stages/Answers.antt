@@ -1,67 +1,74 @@
-use Rattle.std.proofs.Common.{◌+◌, ◌*◌, ◌≤◌, sym, ◌∙◌, subst, arith}
-use Rattle.solver.specs.Columns.{Room, present}
-use Rattle.solver.specs.Memory.{Ranks}
+use Rattle.std.proofs.Common.{◌≡◌, ◌+◌, ◌-◌, ◌*◌, subst, ap, ◌∙◌, take, drop, length, get_or, rules, arith}
+use borrow.Author.Tests.{tests}
+use Rattle.solver.specs.Columns.{Ranks, present}
+use Rattle.solver.specs.Memory.{Standing}
+use Rattle.solver.specs.Solution.{target, stages}
+use Rattle.solver.proofs.Dividing.{standing_more, picks_is, is_over, goes_on, goal_below, final_ranks}
+use Rattle.solver.proofs.Parts.{part_is, rows_apart}
 use Rattle.solver.proofs.Stages.{ended}
-use Rattle.solver.proofs.Searching.{column_past, column_fits}
-use Rattle.solver.proofs.Dividing.{dividing_none, divided, goes_on, goal_below, source_ranks, dividing_more}
 use Rattle.solver.proofs.stage.run_stages.Goals as goal
 
-pub stages-init : goal.stages-init
-stages-init g c = dividing_none (g.A.Arena.meaning c.args.a.now) c.args.work.now c.requires.fresh
+pub returns-in_default-clause-count : goal.returns-in_default-clause-count
+returns-in_default-clause-count g c =
+    is_over (g.A.Arena.meaning c.args.a.now) (g.A.Arena.lawful c.args.a.now) c.stages.s c.stages.taken c.stages.goals c.stages.approaches (omega arith) c.stages.invariant.0 c.stages.invariant.1 c.in_default.ensures.answer
 
-pub missed_goal-requires : goal.missed_goal-requires
-missed_goal-requires g c = record {
-  small = c.requires.enough.small;
-  few = c.requires.enough.few;
-  fits = omega (arith, c.requires.enough.fits, c.stages.auto.work);
-}
-
-pub returns-in_default : goal.returns-in_default
-returns-in_default g c =
+pub returns-in_default-clause-standing : goal.returns-in_default-clause-standing
+returns-in_default-clause-standing g c =
     let m = g.A.Arena.meaning c.args.a.now in
-    let law = g.A.Arena.lawful c.args.a.now in
-    let r = divided m law c.args.work.now c.stages.work c.missed_goal.new.work c.stages.s c.stages.invariant c.in_default.ensures in
-    record { count = r.0; ready = r.1; beyond = λ k h. c.missed_goal.ensures.high k h ∙ c.stages.invariant.high k h }
+    let e : c.stages.s ≡ stages (g.A.Arena.meaning c.args.a.now) =
+    is_over m (g.A.Arena.lawful c.args.a.now) c.stages.s c.stages.taken c.stages.goals c.stages.approaches (omega arith) c.stages.invariant.0 c.stages.invariant.1 c.in_default.ensures.answer
+    in
+    subst (λ s. Standing m s c.stages.taken c.stages.goals c.stages.approaches) e c.stages.invariant.1
+
+pub returns-in_default-clause-ranks : goal.returns-in_default-clause-ranks
+returns-in_default-clause-ranks g c h b =
+    final_ranks (g.A.Arena.meaning c.args.a.now) (g.A.Arena.lawful c.args.a.now) c.stages.s c.stages.taken c.stages.goals c.stages.approaches (omega arith) c.stages.invariant.0 c.stages.invariant.1 c.in_default.ensures.answer
+    c.missed_goal.new.ranks h (c.in_default.ensures.ranks h b tt)
 
 pub overflow_add-s : goal.overflow_add-s
 overflow_add-s g c =
     let m = g.A.Arena.meaning c.args.a.now in
     let law = g.A.Arena.lawful c.args.a.now in
-    let l = goes_on m law c.args.work.now c.stages.work c.missed_goal.new.work c.stages.s c.stages.invariant c.in-Some.g c.in-Some.ensures in
-    omega (arith, (ended m law).small, c.requires.enough.small)
+    let l = goes_on m law c.stages.s c.stages.taken c.stages.goals c.stages.approaches (omega arith) c.stages.invariant.0 c.stages.invariant.1 c.in-Some.g c.in-Some.ensures.answer in
+    omega (arith, (ended m law).small)
 
-pub take_stage-requires : goal.take_stage-requires
-take_stage-requires g c =
+pub slice_bounds-draw-end : goal.slice_bounds-draw-end
+slice_bounds-draw-end g c =
     let m = g.A.Arena.meaning c.args.a.now in
-    let law = g.A.Arena.lawful c.args.a.now in
-    let e = c.positions-n.ensures in
-    let w = c.args.work.now in
-    let v = c.stages.work in
-    let u = c.missed_goal.new.work in
-    let goal = goal_below m law w v u c.stages.s c.stages.invariant c.in-Some.g c.in-Some.ensures in
-    let past = column_past m.size c.in-Some.g in
-    let fits = column_fits m.size c.in-Some.g m.goals goal in
-    let at = (6 + c.in-Some.g) * m.size in
-    let room : Room (g.A.Arena.meaning c.args.a.now).size ((6 + c.in-Some.g) * (g.A.Arena.meaning c.args.a.now).size) c.missed_goal.new.work =
-    record { small = c.requires.enough.small; past = omega arith; fits = omega (arith, c.requires.enough.fits, c.stages.auto.work, c.missed_goal.auto.work) }
-    in
-    record {
-      enough = record { small = c.requires.enough.small; few = c.requires.enough.few; fits = omega (arith, c.requires.enough.fits, c.stages.auto.work, c.missed_goal.auto.work) };
-      source = subst (λ n. Room m.size ((6 + c.in-Some.g) * n) u) (sym e) room;
-      apart = subst (λ n. 4 * m.size ≤ (6 + c.in-Some.g) * n) (sym e) (omega arith);
-      ranks = subst (λ n. Ranks m (present m.size u) c.in-Some.g u ((6 + c.in-Some.g) * n)) (sym e)
-          (source_ranks m law w v u c.stages.s c.stages.invariant c.in-Some.g c.in-Some.ensures);
-    }
+    let b = goal_below m (g.A.Arena.lawful c.args.a.now) c.stages.s c.stages.taken c.stages.goals c.stages.approaches (omega arith) c.stages.invariant.0 c.stages.invariant.1 c.in-Some.g c.in-Some.ensures.answer in
+    let e : c.in-Some.g * (g.A.Arena.meaning c.args.a.now).size ≡ c.from.result * (length c.args.taken.now) = cc in
+    omega (arith, rows_apart c.in-Some.g m.goals m.size b)
+
+pub stages-smaller : goal.stages-smaller
+stages-smaller g c =
+    let l = goes_on (g.A.Arena.meaning c.args.a.now) (g.A.Arena.lawful c.args.a.now) c.stages.s c.stages.taken c.stages.goals c.stages.approaches (omega arith) c.stages.invariant.0 c.stages.invariant.1 c.in-Some.g c.in-Some.ensures.answer in
+    omega arith
 
 pub stages-preserved : goal.stages-preserved
 stages-preserved g c =
     let m = g.A.Arena.meaning c.args.a.now in
     let law = g.A.Arena.lawful c.args.a.now in
-    dividing_more m law c.args.work.now c.stages.work c.missed_goal.new.work c.stages.s c.stages.invariant c.in-Some.g c.take_stage.new.work c.in-Some.ensures c.take_stage.ensures
-
-pub stages-smaller : goal.stages-smaller
-stages-smaller g c =
-    let m = g.A.Arena.meaning c.args.a.now in
-    let law = g.A.Arena.lawful c.args.a.now in
-    let l = goes_on m law c.args.work.now c.stages.work c.missed_goal.new.work c.stages.s c.stages.invariant c.in-Some.g c.in-Some.ensures in
-    omega arith
+    let long : length c.stages.taken ≡ (g.A.Arena.meaning c.args.a.now).size = omega arith in
+    let l = goes_on m law c.stages.s c.stages.taken c.stages.goals c.stages.approaches long c.stages.invariant.0 c.stages.invariant.1 c.in-Some.g c.in-Some.ensures.answer in
+    let picks = picks_is m law c.stages.s c.stages.taken c.stages.goals c.stages.approaches long c.stages.invariant.0 c.stages.invariant.1 _ c.in-Some.ensures.answer in
+    let b = goal_below m law c.stages.s c.stages.taken c.stages.goals c.stages.approaches long c.stages.invariant.0 c.stages.invariant.1 c.in-Some.g c.in-Some.ensures.answer in
+    let at = c.from.result * (length c.args.taken.now) in
+    let end = at + length c.args.taken.now in
+    let same : c.in-Some.g * (g.A.Arena.meaning c.args.a.now).size ≡ c.from.result * (length c.args.taken.now) = cc in
+    let reached : Ranks (g.A.Arena.meaning c.args.a.now) 0 (present c.stages.taken) (target (g.A.Arena.meaning c.args.a.now) (present c.stages.taken) c.in-Some.g)
+    (take (c.from.result * (length c.args.taken.now) + length c.args.taken.now - c.from.result * (length c.args.taken.now)) (drop (c.from.result * (length c.args.taken.now)) c.missed_goal.new.ranks)) =
+    λ k h.
+    let e : c.from.result * (length c.args.taken.now) + k ≡ c.in-Some.g * (g.A.Arena.meaning c.args.a.now).size + k = omega arith in
+    part_is at end c.missed_goal.new.ranks k (omega arith)
+    ∙ ap (λ i. get_or c.missed_goal.new.ranks i 0) e
+    ∙ c.in-Some.ensures.ranks c.in-Some.g b (omega arith) k h
+    in
+    let near = c.draw.ensures c.in-Some.g reached in (
+      omega arith,
+      standing_more m law c.stages.s c.in-Some.g l picks c.stages.taken c.stages.goals c.stages.approaches c.draw.new.near long c.stages.invariant.1 near
+          c.give-in-stages-2.new.column c.give-in-stages.new.column c.give.new.column
+          (record { given = λ k h z. let e = c.give-in-stages-2.ensures.given k (omega arith) z in search (rules, tests); kept = λ k h z. c.give-in-stages-2.ensures.kept k (omega arith) z })
+          (record { given = λ k h z. let e = c.give-in-stages.ensures.given k (omega arith) z in search (rules, tests); kept = λ k h z. c.give-in-stages.ensures.kept k (omega arith) z })
+          (record { given = λ k h z. let e = c.give.ensures.given k (omega arith) z in search (rules, tests); kept = λ k h z. c.give.ensures.kept k (omega arith) z }),
+      omega (arith, c.missed_goal.auto.ranks, c.stages.invariant.2),
+    )

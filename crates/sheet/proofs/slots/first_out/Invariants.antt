@@ -1,7 +1,0 @@
-use Rattle.std.proofs.Common.{◌≡◌, ◌-◌}
-use Rattle.arena.specs.Sets.{seek, least}
-use Rattle.sheet.specs.Slots.{is_lent, seats_of}
-use Rattle.sheet.proofs.slots.first_out.Given as goal
-
-abbrev pub invariant-loop-p : goal.invariant-loop-p
-invariant-loop-p l = seek (is_lent (seats_of l.slots)) l.p (l.n - l.p) ≡ least (is_lent (seats_of l.slots)) l.n
