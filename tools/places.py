@@ -11,7 +11,7 @@ PATTERNS = {
     3: r"^\s*(for \w+ in \d+\.\.|while |loop \{|'\w+: (for|loop)\b|let \w+ = loop)",
     4: r'fn (number|digit|value|pair|refusal_of|push_answer|push_refusal|owner_in|is_between|bytes_of|numbers_of|say|tell)\b|[/%] 256\) as u8|256 \*|refused \{number',
     5: r'\brequires\b|(arena|a): &A, (bytes|work): &|^    arena: &A,$|\bwork: &(mut )?\[u16\], n: u16|\b(sheet_of|row_of) \(?(self|draft|s)\b',
-    6: r'\b(at|from|near|place|off): usize|\bcount: usize|\[\w+ \+ |\bn as usize|\[u16; \d+\]|\[\w+ as usize',
+    6: r'\b(at|from|near|place|off|offset): usize|\bcount: usize|\[\w+ \+ |\bn as usize|\[u16; \d+\]|\[\w+ as usize',
     7: r'\bif (side == 0|other)\b|\bother: bool|match name\b',
 }
 

@@ -3,3 +3,4 @@ pub mod Laws
 pub mod Strategies
 pub mod Loops
 pub mod Within
+pub mod Chains

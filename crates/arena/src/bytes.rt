@@ -1,5 +1,5 @@
-ghost use Rattle.std.specs.Prelude.{◌≡◌, ℕ};
-ghost use Rattle.arena.specs.Bytes.{byte, marked_by, number};
+ghost use Rattle.std.specs.Prelude.{◌≡◌, ℕ, ◌++◌};
+ghost use Rattle.arena.specs.Bytes.{byte, marked_by, number, two};
 
 /// The byte at place `i`; past the end it is 0.
 pub fn byte_at(bytes: &[u8], i: usize) -> u8
@@ -21,4 +21,23 @@ pub fn is_marked_by(bytes: &[u8], i: usize, mark: [u8; 2]) -> bool
 {
     let [first, second] = mark;
     byte_at(bytes, i) == first && byte_at(bytes, i.saturating_add(1)) == second
+}
+
+/// The head of a strip or a certificate: its mark, and the numbers of positions and of goals.
+pub fn head(mark: [u8; 2], n: u16, k: u16) -> [u8; 6]
+    ensures { result ≡ mark ++ (two n ++ two k) }
+{
+    let [first, second] = mark;
+    let [n_high, n_low] = n.to_be_bytes();
+    let [k_high, k_low] = k.to_be_bytes();
+    [first, second, n_high, n_low, k_high, k_low]
+}
+
+/// The end of a strip or a certificate: its mark, and the number of positions.
+pub fn end(mark: [u8; 2], n: u16) -> [u8; 4]
+    ensures { result ≡ mark ++ two n }
+{
+    let [first, second] = mark;
+    let [high, low] = n.to_be_bytes();
+    [first, second, high, low]
 }

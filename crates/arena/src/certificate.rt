@@ -7,6 +7,7 @@ ghost use Rattle.arena.specs.Certificate.{
   goal_of,
   move_of,
   rank_of,
+  record_bytes,
   record_start,
   side_of,
   stage_of,
@@ -15,11 +16,22 @@ ghost use Rattle.arena.specs.Certificate.{
 use super::Arena;
 use super::bytes::{byte_at, number_at};
 
+/// What stands in a field for no move.
+pub const NO_MOVE: u16 = 65535;
+
+/// The length of a record.
+pub fn record_bytes<A: Arena>(arena: &A) -> usize
+    ensures length { result ≡ record_bytes (A.meaning arena.now) }
+    ensures small { result < 2 ^ 20 }
+{
+    10 + 4 * arena.goals() as usize
+}
+
 /// The length of a certificate of the arena.
 pub fn certificate_bytes<A: Arena>(arena: &A) -> usize
     ensures { result ≡ certificate_bytes (A.meaning arena.now) }
 {
-    arena.positions() as usize * (10 + 4 * arena.goals() as usize) + 10
+    arena.positions() as usize * record_bytes(arena) + 10
 }
 
 /// Where the record of position `p` begins; after the last record, where the end of the certificate does.
@@ -27,7 +39,7 @@ pub fn record_start<A: Arena>(arena: &A, p: u16) -> usize
     ensures place { result ≡ record_start (A.meaning arena.now) p }
     ensures small { result < 2 ^ 40 }
 {
-    6 + p as usize * (10 + 4 * arena.goals() as usize)
+    6 + p as usize * record_bytes(arena)
 }
 
 /// Bytes that are read as a certificate of an arena. Any bytes can be: whether they are one is for check to say.

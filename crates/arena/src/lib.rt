@@ -18,8 +18,8 @@ mod owner;
 mod refusal;
 mod sizes;
 
-pub use bytes::{byte_at, is_marked_by, number_at};
-pub use certificate::{Certificate, certificate_bytes, record_start};
+pub use bytes::{byte_at, end, head, is_marked_by, number_at};
+pub use certificate::{Certificate, NO_MOVE, certificate_bytes, record_bytes, record_start};
 pub use moves::{Moves, moves_of};
 pub use owner::{NoOwner, Owner};
 pub use refusal::{Named, Refusal};

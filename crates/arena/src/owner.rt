@@ -10,7 +10,7 @@ pub enum Owner {
 
 /// A number that is no owner's.
 #[derive(Clone, Copy, Debug, PartialEq, Eq)]
-pub struct NoOwner(pub u8);
+pub struct NoOwner(pub u16);
 
 impl From<Owner> for u16 {
     ghost from_gives = { λ owner number. number ≡ owner_number owner };
@@ -23,12 +23,12 @@ impl From<Owner> for u16 {
     }
 }
 
-impl TryFrom<u8> for Owner {
+impl TryFrom<u16> for Owner {
     type Error = NoOwner;
 
     ghost try_from_gives = { Names };
 
-    fn try_from(number: u8) -> Result<Owner, NoOwner> {
+    fn try_from(number: u16) -> Result<Owner, NoOwner> {
         match number {
             0 => Ok(Owner::Controller),
             1 => Ok(Owner::Traffic),

@@ -1,14 +1,14 @@
 -- The runner as a value: its place, what an event asks of it, its answers told by the table of refusals, and what is left.
 -- Read after the runner's calls.
-use Rattle.std.specs.Prelude.{◌≡◌, ℕ, true, false, cond, List, [], Ok, Err, Result}
+use Rattle.std.specs.Prelude.{◌≡◌, ℕ, true, false, cond, List, [], Ok, Err, Result, Some, None, Option}
 use Rattle.arena.specs.Refusals.{Outcome, accepted, refused}
 use Rattle.arena.specs.Arena.{Meaning}
 use Rattle.arena.specs.Sizes.{size_refusal}
 use Rattle.control.specs.Run.{Place, idle, on, Call, start, go, moved, turn, answer, settled}
 use Rattle.control.specs.declared.runner.Event.{Event}
 use Rattle.control.specs.declared.runner.Event.TheVariants.{Start, Go, Moved}
-use Rattle.control.specs.declared.runner.Turn.{Turn}
-use Rattle.control.specs.declared.runner.Turn.TheVariants.{Nobody, Controller, Traffic}
+use Rattle.arena.specs.declared.owner.Owner.{Owner}
+use Rattle.arena.specs.declared.owner.Owner.TheVariants.{Controller, Traffic}
 use Rattle.control.specs.declared.runner.RunFault.{RunFault}
 use Rattle.control.specs.declared.runner.RunFault.TheVariants.{Size, Length, Position, Side, Move, NotNow, Field}
 use Rattle.control.specs.declared.runner.Runner.{Runner}
@@ -22,8 +22,8 @@ abbrev pub new_runner : {A : Type 0} → A → Runner A
 new_runner arena = record { arena = arena; position = 0; aim = 0; running = false }
 
 -- whose turn it is at a place
-abbrev pub whose : Meaning → Place → Turn
-whose m s = cond (turn m 0 s) Controller (cond (turn m 1 s) Traffic Nobody)
+abbrev pub whose : Meaning → Place → Option Owner
+whose m s = cond (turn m 0 s) (Some Controller) (cond (turn m 1 s) (Some Traffic) None)
 
 -- the call that an event is, with the certificate shown
 abbrev pub call_of : List ℕ → Event → Call

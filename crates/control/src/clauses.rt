@@ -27,12 +27,9 @@ ghost use Rattle.control.specs.Accept.{
 ghost use Rattle.control.specs.Clauses.{clause_number};
 
 use super::record::{Record, has_move};
-use arena::{Arena, Owner, is_marked_by, record_start};
+use arena::{Arena, NO_MOVE, Owner, is_marked_by, record_start};
 
-/// What stands in a field for no move.
-const NO_MOVE: u16 = 65535;
-
-/// The clauses of a certificate, in the order in which check asks them.
+//// The clauses of a certificate, in the order in which check asks them.
 #[derive(Clone, Copy, Debug, PartialEq, Eq)]
 pub enum Clause {
     /// The head is right for the arena.

@@ -6,7 +6,7 @@ ghost use Rattle.control.specs.Run.{answer, go, moved, next_aim, start, turn};
 
 use super::record::has_move;
 use super::verdict::fits;
-use arena::{Arena, Certificate, Refusal, SizeFault, sized};
+use arena::{Arena, Certificate, Owner, Refusal, SizeFault, sized};
 
 /// What may be asked of a runner: to start at a position, to make the controller's move, or to follow the traffic's.
 #[derive(Clone, Copy)]
@@ -59,14 +59,6 @@ impl From<RunFault> for Refusal {
     }
 }
 
-/// Whose turn it is.
-#[derive(Clone, Copy)]
-enum Turn {
-    Nobody,
-    Controller,
-    Traffic,
-}
-
 /// A runner: it holds an arena, stands on a position, and serves one goal after another. The goal that it serves is its aim.
 #[derive(Drop)]
 pub struct Runner<A> {
@@ -79,20 +71,13 @@ pub struct Runner<A> {
 
 impl<A: Arena> Runner<A> {
     /// Whose turn it is. A place outside the arena is nobody's turn, as idle is.
-    fn turn(&self) -> Turn
+    fn turn(&self) -> Option<Owner>
         ensures { result ≡ whose (A.meaning self.now.arena) (place_of self.now) }
     {
-        if !self.running {
-            return Turn::Nobody;
+        if !self.running || self.aim >= self.arena.goals() {
+            return None;
         }
-        if self.aim >= self.arena.goals() {
-            return Turn::Nobody;
-        }
-        match self.arena.owner(self.position) {
-            Some(0) => Turn::Controller,
-            Some(1) => Turn::Traffic,
-            _ => Turn::Nobody,
-        }
+        Owner::try_from(self.arena.owner(self.position)?).ok()
     }
 
     /// The aim once the position is left: if it is marked for it, the goal after it, and after the last the first.
@@ -174,12 +159,12 @@ impl<A: Arena> Runner<A> {
     {
         let (position, aim) = match (self.turn(), event) {
             (_, Event::Start(p)) => self.begin(certificate, p)?,
-            (Turn::Controller, Event::Go) => self.make(certificate)?,
-            (Turn::Traffic, Event::Moved(q)) => self.follow(certificate, q)?,
-            (Turn::Nobody, Event::Go) => return Err(RunFault::NotNow),
-            (Turn::Nobody, Event::Moved(_)) => return Err(RunFault::NotNow),
-            (Turn::Controller, Event::Moved(_)) => return Err(RunFault::NotNow),
-            (Turn::Traffic, Event::Go) => return Err(RunFault::NotNow),
+            (Some(Owner::Controller), Event::Go) => self.make(certificate)?,
+            (Some(Owner::Traffic), Event::Moved(q)) => self.follow(certificate, q)?,
+            (None, Event::Go) => return Err(RunFault::NotNow),
+            (None, Event::Moved(_)) => return Err(RunFault::NotNow),
+            (Some(Owner::Controller), Event::Moved(_)) => return Err(RunFault::NotNow),
+            (Some(Owner::Traffic), Event::Go) => return Err(RunFault::NotNow),
         };
         self.position = position;
         self.aim = aim;

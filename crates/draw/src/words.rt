@@ -14,9 +14,5 @@ pub(crate) fn seat(word: &str) -> Result<u8, Failure> {
 
 /// The owner that a number names: 0 the controller, 1 the traffic.
 pub(crate) fn owner(n: u16) -> Result<Owner, Failure> {
-    match n {
-        0 => Ok(Owner::Controller),
-        1 => Ok(Owner::Traffic),
-        _ => Err(Failure::NoCall),
-    }
+    Owner::try_from(n).or(Err(Failure::NoCall))
 }

@@ -4,9 +4,9 @@ ghost use Rattle.planner.specs.Promise.{Promise};
 ghost use Rattle.strip.specs.Strip.{open_answer};
 
 use crate::faults::PlanFault;
-use arena::{Arena, certificate_bytes};
+use arena::certificate_bytes;
 use report::{plan, refusal};
-use solver::solve;
+use solver::{solve, work_numbers};
 use std::alloc::{AllocError, Global};
 use strip::{OpenedStrip, open};
 
@@ -16,9 +16,8 @@ pub fn describe(heap: Global, bytes: &[u8]) -> Result<String, PlanFault>
 {
     let mut strip = OpenedStrip::empty();
     open(bytes, &mut strip)?;
-    let numbers = strip.positions() as usize * (strip.goals() as usize + 6);
     let mut certificate = vec![in heap; 0u8; certificate_bytes(&strip)]?;
-    let mut work = vec![in heap; 0u16; numbers]?;
+    let mut work = vec![in heap; 0u16; work_numbers(&strip)]?;
     let (controlled, stages) = solve(
         &strip,
         certificate.as_mut_slice(),

@@ -2,7 +2,7 @@ ghost use Rattle.std.specs.Prelude.{Some};
 ghost use Rattle.arena.specs.Sets.{concat, upto};
 ghost use Rattle.report.specs.Plan.{decision_text, goal_text, move_text, traffic_text};
 
-use arena::{Arena, Certificate};
+use arena::{Arena, Certificate, NO_MOVE};
 use std::fmt;
 
 /// A move as it is printed, the sign `-` for none.
@@ -14,7 +14,7 @@ impl fmt::Display for Step {
 
     fn fmt<W: fmt::Write>(&self, f: &mut fmt::Formatter<W>) -> fmt::Result {
         match self.0 {
-            65535 => write!(f, "-"),
+            NO_MOVE => write!(f, "-"),
             q => write!(f, "{q}"),
         }
     }

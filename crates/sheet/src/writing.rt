@@ -1,10 +1,11 @@
 ghost use Rattle.std.specs.Prelude.{◌≡◌, ℕ, ◌+◌, ◌≤◌, ◌++◌, length, drop};
 ghost use Rattle.sheet.specs.Slots.{row_at, rows_of};
-ghost use Rattle.strip.specs.Writing.{end_of, head_of, strip, strip_bytes};
+ghost use Rattle.strip.specs.Writing.{strip, strip_bytes};
 ghost use Rattle.std.proofs.Math.Seq.{paste};
 
 use crate::slot::Slot;
-use strip::{END_BYTES, END_MARK, HEAD_BYTES, HEAD_MARK, record_at};
+use arena::{end, head};
+use strip::{END_MARK, HEAD_MARK, record_at};
 
 /// Writes bytes over others, from a place on.
 fn put_at(bytes: &mut [u8], at: usize, what: &[u8])
@@ -14,25 +15,6 @@ fn put_at(bytes: &mut [u8], at: usize, what: &[u8])
     bytes[at..at + what.len()].copy_from_slice(what);
 }
 
-/// The head of a strip of `n` positions and `k` goals.
-fn head(n: u16, k: u16) -> [u8; HEAD_BYTES]
-    ensures { result ≡ head_of n k }
-{
-    let [mark, kind] = HEAD_MARK;
-    let [n_high, n_low] = n.to_be_bytes();
-    let [k_high, k_low] = k.to_be_bytes();
-    [mark, kind, n_high, n_low, k_high, k_low]
-}
-
-/// The end of a strip of `n` positions.
-fn end(n: u16) -> [u8; END_BYTES]
-    ensures { result ≡ end_of n }
-{
-    let [mark, kind] = END_MARK;
-    let [high, low] = n.to_be_bytes();
-    [mark, kind, high, low]
-}
-
 /// Writes the strip of the rows over the first bytes.
 pub(crate) fn put_strip(slots: &[Slot], k: u16, bytes: &mut [u8])
     requires few { length slots.now ≤ 512 }
@@ -40,9 +22,9 @@ pub(crate) fn put_strip(slots: &[Slot], k: u16, bytes: &mut [u8])
     ensures { bytes.new ≡ strip (length slots.now) k (row_at (rows_of slots.now)) ++ drop (strip_bytes (length slots.now)) bytes.old }
 {
     let n = slots.len() as u16;
-    put_at(bytes, 0, &head(n, k));
+    put_at(bytes, 0, &head(HEAD_MARK, n, k));
     for (p, slot) in slots.iter().enumerate() {
         put_at(bytes, record_at(p as u16), &slot.row.record());
     }
-    put_at(bytes, record_at(n), &end(n));
+    put_at(bytes, record_at(n), &end(END_MARK, n));
 }

@@ -3,10 +3,7 @@ ghost use Rattle.arena.specs.Owners.{owner_number};
 ghost use Rattle.solver.specs.Deciding.{StepsBelow, decision};
 
 use super::attract::is_owner;
-use arena::{Arena, Owner, moves_of};
-
-// What stands in a field for no move.
-const NO_MOVE: u16 = 65535;
+use arena::{Arena, NO_MOVE, Owner, moves_of};
 
 // The side's decision at each position: where the side owns the position, the lowest of its moves that qualifies.
 pub(crate) fn decide<A: Arena, F: Fn(u16, u16) -> bool>(

@@ -4,10 +4,10 @@ ghost use Rattle.solver.specs.declared.SolveFault.TheVariants.{Size};
 ghost use Rattle.std.specs.Prelude.{◌≡◌, ◌≤◌, ◌++◌, length, drop, replicate};
 ghost use Rattle.arena.specs.Told.{Same};
 ghost use Rattle.solver.specs.Refused.{outcome, solve_refusal};
-ghost use Rattle.solver.specs.Solve.{bytes_after, solve, work_after};
+ghost use Rattle.solver.specs.Solve.{bytes_after, solve, work_after, work_numbers};
 
 use arena::{Arena, Refusal, SizeFault, certificate_bytes, sized};
-use plan::{plan, work_numbers};
+use plan::plan;
 
 // From the bottom up: the attractor in rounds, the stages, the decisions, what the stages settled, the records, and all of
 // them in their order.
@@ -44,6 +44,13 @@ impl From<SolveFault> for Refusal {
             SolveFault::Memory => Refusal::bare(3),
         }
     }
+}
+
+/// How many numbers of work memory solve uses.
+pub fn work_numbers<A: Arena>(arena: &A) -> usize
+    ensures { result ≡ work_numbers (A.meaning arena.now) }
+{
+    usize::from(arena.positions()) * (usize::from(arena.goals()) + 6)
 }
 
 // Holds the lent work memory; when it goes, the first `used` numbers are zero.

@@ -6,14 +6,8 @@ ghost use Rattle.solver.specs.Solve.{work_numbers};
 
 use super::settled::Settled;
 use super::stage::run_stages;
+use super::work_numbers;
 use arena::{Arena, certificate_bytes};
-
-// How many numbers of work memory are used.
-pub(crate) fn work_numbers<A: Arena>(a: &A) -> usize
-    ensures { result ≡ work_numbers (A.meaning a.now) }
-{
-    usize::from(a.positions()) * (usize::from(a.goals()) + 6)
-}
 
 // The whole work, in memories of the lengths that it needs: how many positions are the controller's, and how many stages
 // there are.

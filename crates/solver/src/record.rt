@@ -1,5 +1,4 @@
-ghost use Rattle.std.specs.Prelude.{◌≡◌, ℕ, ◌+◌, ◌*◌, ◌<◌, false, ◌∷◌, ◌++◌, length, slice_index};
-ghost use Rattle.arena.specs.Bytes.{two};
+ghost use Rattle.std.specs.Prelude.{◌≡◌, ℕ, ◌+◌, ◌*◌, ◌<◌, false, length, slice_index};
 ghost use Rattle.arena.specs.Certificate.{certificate_bytes, record_bytes};
 ghost use Rattle.arena.specs.Sets.{concat, upto};
 ghost use Rattle.solver.specs.Certificate.{certificate, entry};
@@ -7,31 +6,7 @@ ghost use Rattle.solver.specs.Solution.{final, goal_move, traffic_move};
 ghost use Rattle.solver.specs.Writing.{Field, Rows, front_bytes, goal_bytes};
 
 use super::settled::Settled;
-use arena::Arena;
-
-// The length of a record.
-fn record_bytes<A: Arena>(a: &A) -> usize
-    ensures { result ≡ record_bytes (A.meaning a.now) }
-{
-    10 + 4 * usize::from(a.goals())
-}
-
-// The head, with the numbers of positions and goals.
-fn head(n: u16, goals: u16) -> [u8; 6]
-    ensures { result ≡ 0x43 ∷ 0x48 ∷ (two n ++ two goals) }
-{
-    let n = n.to_be_bytes();
-    let goals = goals.to_be_bytes();
-    [0x43, 0x48, n[0], n[1], goals[0], goals[1]]
-}
-
-// The end, with the number of positions.
-fn end(n: u16) -> [u8; 4]
-    ensures { result ≡ 0x43 ∷ 0x45 ∷ two n }
-{
-    let n = n.to_be_bytes();
-    [0x43, 0x45, n[0], n[1]]
-}
+use arena::{Arena, end, head, record_bytes};
 
 // What stands in a record before the goals.
 fn front(side: u8, goal: u8, stage: u16, approach: u16, step: u16) -> [u8; 10]
@@ -150,8 +125,8 @@ impl<A: Arena> Settled<'_, A> {
         let n = self.arena.positions();
         let (front, rest) = out.split_at_mut(6);
         let (records, back) = rest.split_at_mut(usize::from(n) * record_bytes(self.arena));
-        front.copy_from_slice(&head(n, self.arena.goals()));
+        front.copy_from_slice(&head([0x43, 0x48], n, self.arena.goals()));
         self.write_records(steps, choices, records);
-        back.copy_from_slice(&end(n));
+        back.copy_from_slice(&end([0x43, 0x45], n));
     }
 }

@@ -30,7 +30,7 @@ fn stored(bytes: &[u8]) -> Option<Row>
     let Ok(_) = record.inspect() else {
         return None;
     };
-    let Ok(owner) = Owner::try_from(byte_at(bytes, 2)) else {
+    let Ok(owner) = Owner::try_from(u16::from(byte_at(bytes, 2))) else {
         return None;
     };
     Some(Row {

@@ -59,5 +59,5 @@ returns c =
     ap (take c.number_at.result) all ∙ ap (λ n. take n (map f (upto 16))) c.number_at.ensures ∙ take-map-range_with_len f 0 16 (moves_at bs 0) few in
     let none : sound bs ≡ true = ap (λ o. not (holds o)) (sym (c.in-Ok.ensures ∙ record_is bs 65536 8 0)) in
     let there = within_true _ (row_from bs 0) (and_from (long bs) (sound bs) (eq-eqb (length bs) 38 (omega arith)) none) in
-    let owner = c.in-Ok-try_from.ensures ∙ c.byte_at.ensures in
+    let owner = c.in-Ok-try_from.ensures ∙ c.from.ensures ∙ c.byte_at.ensures in
     ap Some (λ i. record { owner = owner i; marks = c.byte_at-2.ensures i; moves = moves i }) ∙ sym there
