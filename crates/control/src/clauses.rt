@@ -29,7 +29,7 @@ ghost use Rattle.control.specs.Clauses.{clause_number};
 use super::record::{Record, has_move};
 use arena::{Arena, NO_MOVE, Owner, is_marked_by, record_start};
 
-//// The clauses of a certificate, in the order in which check asks them.
+/// The clauses of a certificate, in the order in which check asks them.
 #[derive(Clone, Copy, Debug, PartialEq, Eq)]
 pub enum Clause {
     /// The head is right for the arena.

@@ -3,9 +3,10 @@ use crate::hex::push_hex;
 use arena::number_at;
 use sheet::Sheet;
 use std::alloc::{AllocError, Global};
+use strip::strip_bytes;
 
-/// The length of the longest strip.
-const LONGEST: usize = 19466;
+/// How many positions the largest sheet has.
+const MOST: u16 = 512;
 
 /// What a list of calls comes to: the answers and then the strip as text, the strip that the sheet is, and the certificate
 /// of the last accepted solve, no bytes where there was none.
@@ -18,10 +19,10 @@ pub struct Drawing {
 
 /// The strip that the sheet is.
 fn strip_of(heap: Global, sheet: &Sheet) -> Result<Vec<u8>, AllocError> {
-    let mut bytes = vec![in heap; 0u8; LONGEST]?;
+    let mut bytes = vec![in heap; 0u8; strip_bytes(MOST)]?;
     let _ = sheet.write(bytes.as_mut_slice());
-    let n = number_at(&bytes, 2) as usize;
-    bytes.truncate(38 * n + 10);
+    let n = number_at(&bytes, 2);
+    bytes.truncate(strip_bytes(n));
     Ok(bytes)
 }
 
