@@ -16,7 +16,7 @@ pub fn number_at(bytes: &[u8], i: usize) -> u16
     let Some(high) = bytes.get(i) else {
         return 0;
     };
-    u16::from_be_bytes([*high, byte_at(bytes, i + 1)])
+    256 * u16::from(*high) + u16::from(byte_at(bytes, i + 1))
 }
 
 /// Whether the two bytes of a mark stand at place `i`.
