@@ -7,9 +7,8 @@ use sheet::{ClosedSheet, Sheet};
 use sheet_faults::CloseFault;
 use solver::solve;
 
-/// Solves a sheet in two lent memories: closes it, solves the arena that its rows draw, and opens it again. Refused by 10
-/// and 11 as closing is, and then by 3. The sheet is only looked at.
-pub fn solve_sheet(
+/// Closes the sheet and solves its arena.
+fn solve_closed(
     sheet: &Sheet,
     certificate: &mut [u8],
     work: &mut [u16],
@@ -21,4 +20,18 @@ pub fn solve_sheet(
     let mut closed = ClosedSheet::empty();
     sheet.close(&mut closed)?;
     Ok(solve(&closed, certificate, work)?)
+}
+
+/// Solves a sheet in two lent memories: closes it, solves the arena that its rows draw, and opens it again. Refused by 10
+/// and 11 as closing is, and then by 3. The sheet is only looked at.
+pub fn solve_sheet(
+    sheet: &Sheet,
+    certificate: &mut [u8],
+    work: &mut [u16],
+) -> Result<(u16, u16), SolvingFault<CloseFault>>
+    ensures answer { solving_outcome close_refusal result ≡ sheet_solve sheet.now certificate.old work.old }
+    ensures bytes { certificate.new ≡ sheet_solve_bytes sheet.now certificate.old work.old }
+    ensures numbers { work.new ≡ sheet_solve_work sheet.now certificate.old work.old }
+{
+    solve_closed(sheet, certificate, work)
 }

@@ -6,7 +6,7 @@ use Rattle.sheet_faults.specs.Refusals.{close_refusal}
 use Rattle.planner.specs.Solving.{solving_outcome}
 use Rattle.planner.proofs.Closed.{closed}
 use Rattle.planner.proofs.Answered.{solved, close_stays}
-use Rattle.planner.proofs.sheets.solve_sheet.Goals as goal
+use Rattle.planner.proofs.sheets.solve_closed.Goals as goal
 
 pub returns-in_err-close : goal.returns-in_err-close
 returns-in_err-close c =
