@@ -1,5 +1,6 @@
 ghost use Rattle.std.specs.Prelude.{◌≡◌, ℕ};
 ghost use Rattle.planner.specs.Solving.{sheet_solve, sheet_solve_bytes, sheet_solve_work, solving_outcome};
+ghost use Rattle.sheet.specs.Fits.{Fits};
 ghost use Rattle.sheet_faults.specs.Refusals.{close_refusal};
 
 use crate::solving::SolvingFault;
@@ -16,6 +17,7 @@ fn solve_closed(
     ensures answer { solving_outcome close_refusal result ≡ sheet_solve sheet.now certificate.old work.old }
     ensures bytes { certificate.new ≡ sheet_solve_bytes sheet.now certificate.old work.old }
     ensures numbers { work.new ≡ sheet_solve_work sheet.now certificate.old work.old }
+    ensures fits { Fits sheet.now }
 {
     let mut closed = ClosedSheet::empty();
     sheet.close(&mut closed)?;
@@ -32,6 +34,7 @@ pub fn solve_sheet(
     ensures answer { solving_outcome close_refusal result ≡ sheet_solve sheet.now certificate.old work.old }
     ensures bytes { certificate.new ≡ sheet_solve_bytes sheet.now certificate.old work.old }
     ensures numbers { work.new ≡ sheet_solve_work sheet.now certificate.old work.old }
+    ensures fits { Fits sheet.now }
 {
     solve_closed(sheet, certificate, work)
 }

@@ -20,11 +20,11 @@ fits s held =
       drawn = omega (arith, length-map items (λ (h : Slot). row_of h.row), s.slots.ok.0);
       seated = omega (arith, length-map items (λ (h : Slot). seat_or_none h.holder), s.slots.ok.0);
       good = λ p l.
-      record {
-        owned = row_owned items p;
-        goals = held.marked p l;
-        few = row_few items p;
-        below = λ j m. held.below p j l m;
-        rising = λ i j m w. row_rises items p i j m w;
-      };
+          record {
+            owned = row_owned items p;
+            goals = held.marked p l;
+            few = row_few items p;
+            below = λ j m. held.below p j l m;
+            rising = λ i j m w. row_rises items p i j m w;
+          };
     }
