@@ -12,7 +12,11 @@ pub fn byte_at(bytes: &[u8], i: usize) -> u8
 pub fn number_at(bytes: &[u8], i: usize) -> u16
     ensures { result ≡ number bytes.now i }
 {
-    u16::from_be_bytes([byte_at(bytes, i), byte_at(bytes, i.saturating_add(1))])
+    // Past the end at once: readers ask this in loops, and the compiler then keeps what does not change there.
+    let Some(high) = bytes.get(i) else {
+        return 0;
+    };
+    256 * u16::from(*high) + u16::from(byte_at(bytes, i + 1))
 }
 
 /// Whether the two bytes of a mark stand at place `i`.

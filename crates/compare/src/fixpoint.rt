@@ -26,7 +26,7 @@ fn reached(plant: &Plant, marked: u16, set: u16) -> u16 {
 
 /// The positions of the set from which each goal can be reached.
 fn narrowed(plant: &Plant, set: u16) -> u16 {
-    let goals = plant.marked.iter();
+    let goals = plant.marked.iter().take(usize::from(plant.k));
     goals.fold(
         set,
         |positions, marked| positions & reached(plant, *marked, set),

@@ -34,10 +34,39 @@ enum Finding {
     Refused,
 }
 
-/// Solves the plant, which the arena is opened from, and adds what is found.
+/// How often each was found.
+#[derive(Clone, Copy, Debug)]
+struct Counts {
+    positions: u64,
+    controllers: u64,
+    traffics: u64,
+    several_stages: u64,
+    differences: u64,
+    refused: u64,
+}
+
+impl Counts {
+    /// Counts what is found.
+    fn add(&mut self, finding: Finding) {
+        if let Finding::Side(_) = finding {
+            self.positions = self.positions.wrapping_add(1);
+        }
+        let count = match finding {
+            Finding::Side(0) => &mut self.controllers,
+            Finding::Side(1) => &mut self.traffics,
+            Finding::Side(_) => return,
+            Finding::SeveralStages => &mut self.several_stages,
+            Finding::Difference => &mut self.differences,
+            Finding::Refused => &mut self.refused,
+        };
+        *count = count.wrapping_add(1);
+    }
+}
+
+/// Solves the plant, which the arena is opened from, and counts what is found.
 fn judge(
     rt: &HostRuntime,
-    findings: &mut Vec<Finding>,
+    counts: &mut Counts,
     plant: &Plant,
     arena: &OpenedStrip,
 ) -> anyhow::Result<()> {
@@ -53,57 +82,58 @@ fn judge(
     let set = winning(plant);
     for p in 0..plant.n {
         let side = certificate.side_of(p);
-        findings.push(Finding::Side(side))?;
+        counts.add(Finding::Side(side));
         if has(set, p) != (side == 0) {
-            findings.push(Finding::Difference)?;
+            counts.add(Finding::Difference);
         }
     }
     if set.count_ones() != u32::from(c) {
-        findings.push(Finding::Difference)?;
+        counts.add(Finding::Difference);
     }
     if stages > 1 {
-        findings.push(Finding::SeveralStages)?;
+        counts.add(Finding::SeveralStages);
     }
     match check(arena, &bytes) {
         Ok(answer) if answer == c => {}
-        Ok(_) => findings.push(Finding::Difference)?,
-        Err(_) => findings.push(Finding::Refused)?,
+        Ok(_) => counts.add(Finding::Difference),
+        Err(_) => counts.add(Finding::Refused),
     }
     Ok(())
 }
 
 /// Draws the next plant, opens the strip that stores it, and judges it.
-fn next(rt: &HostRuntime, random: &mut Random, findings: &mut Vec<Finding>) -> anyhow::Result<()> {
-    let plant = draw(rt.alloc(), random)?;
+fn next(rt: &HostRuntime, random: &mut Random, counts: &mut Counts) -> anyhow::Result<()> {
+    let plant = draw(random);
     let strip = strip_of(rt.alloc(), &plant)?;
     let mut arena = OpenedStrip::empty();
     if open(&strip, &mut arena).is_err() {
         bail!("a drawn strip does not open");
     }
-    judge(rt, findings, &plant, &arena)
-}
-
-/// How many of the findings are such.
-fn count(findings: &[Finding], such: Finding) -> usize {
-    findings.iter().filter(|finding| **finding == such).count()
+    judge(rt, counts, &plant, &arena)
 }
 
 /// Compares what solve says of drawn plants with what another algorithm does, the nested fixpoint, and what check answers.
 fn main(rt: HostRuntime) -> anyhow::Result<()> {
     let mut random = Random { state: 1 };
-    let mut findings = Vec::new(rt.alloc());
+    let mut counts = Counts {
+        positions: 0,
+        controllers: 0,
+        traffics: 0,
+        several_stages: 0,
+        differences: 0,
+        refused: 0,
+    };
     for _ in 0..PLANTS {
-        next(&rt, &mut random, &mut findings)?;
+        next(&rt, &mut random, &mut counts)?;
     }
-    let controllers = count(&findings, Finding::Side(0));
-    let traffics = count(&findings, Finding::Side(1));
-    let several_stages = count(&findings, Finding::SeveralStages);
-    let differences = count(&findings, Finding::Difference);
-    let refused = count(&findings, Finding::Refused);
-    let positions = findings
-        .iter()
-        .filter(|finding| matches!(finding, Finding::Side(_)))
-        .count();
+    let Counts {
+        positions,
+        controllers,
+        traffics,
+        several_stages,
+        differences,
+        refused,
+    } = counts;
     println!(rt; "plants {PLANTS}")?;
     println!(rt; "positions {positions}")?;
     println!(rt; "controller's {controllers}")?;

@@ -63,11 +63,19 @@ impl<A: Arena> Record<'_, A> {
     {
         let c = self.certificate;
         let p = self.position;
+        // Each field is read once: this is asked of every move of the plant.
         c.side_of(q) == 1
-            && (c.stage_of(q) < c.stage_of(p)
-                || (c.stage_of(q) == c.stage_of(p)
-                    && c.goal_of(q) == c.goal_of(p)
-                    && (c.approach_of(q) < c.approach_of(p)
-                        || (c.approach_of(p) == 0 && c.approach_of(q) == 0))))
+            && {
+                let old = c.stage_of(p);
+                let new = c.stage_of(q);
+                new < old
+                    || (new == old
+                        && c.goal_of(q) == c.goal_of(p)
+                        && {
+                            let far = c.approach_of(p);
+                            let near = c.approach_of(q);
+                            near < far || (far == 0 && near == 0)
+                        })
+            }
     }
 }

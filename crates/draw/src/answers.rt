@@ -20,7 +20,7 @@ pub enum Failure {
     Refused(Refusal),
     /// The program holds no slip for this seat and position.
     NotHeld,
-    /// There is no memory, to hold another slip or for the words of the line.
+    /// There is no memory, to hold another slip or for the strip to load.
     NoRoom,
     /// The line is no call.
     NoCall,

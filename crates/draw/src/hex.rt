@@ -1,10 +1,17 @@
 use crate::answers::Failure;
 use std::alloc::{AllocError, Global};
 
+/// The hexadecimal digit of a number below 16.
+fn digit(x: u8) -> char {
+    char::from_digit(u32::from(x), 16).unwrap_or('0')
+}
+
 /// Adds bytes in hexadecimal, as one line.
 pub(crate) fn push_hex(out: &mut String, bytes: &[u8]) -> Result<(), AllocError> {
     for byte in bytes {
-        write!(out, "{byte:02x}")?;
+        // Pushed, and not formatted: a certificate has twenty thousand bytes.
+        out.push(digit(byte >> 4))?;
+        out.push(digit(byte & 15))?;
     }
     out.push_str("\n")
 }

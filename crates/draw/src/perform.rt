@@ -4,6 +4,7 @@ use crate::hex::bytes_of;
 use crate::words::{number, seat};
 use sheet::ClosedSheet;
 use std::alloc::AllocError;
+use std::array;
 
 impl Desk {
     /// Shapes the sheet.
@@ -26,18 +27,21 @@ impl Desk {
         Ok(Answer::Done)
     }
 
-    /// The call of a line.
+    /// The call of a line. No call but `load` has more than four words, so that of five the last tells whether there are more.
     fn perform(&mut self, line: &str) -> Result<Answer, Failure> {
-        let words: Vec<&str> = line.split_whitespace().collect(self.heap)?;
-        match words.as_slice() {
-            ["count"] => Ok(Answer::Number(self.sheet.count())),
-            ["close"] => self.close(),
-            ["load", word, ..] => self.load(word),
-            ["shape", n, k] => self.shape(number(n)?, number(k)?),
-            ["take", s, p] => self.take(seat(s)?, number(p)?),
-            ["put", s, p] => self.put(seat(s)?, number(p)?),
-            ["let_go", s, p] => self.let_go(seat(s)?, number(p)?),
-            [edit, s, p, x] => self.change(edit, seat(s)?, number(p)?, number(x)?),
+        let mut words = line.split_whitespace();
+        let call: [Option<&str>; 5] = array::from_fn(|_| words.next());
+        match call {
+            [Some("count"), None, ..] => Ok(Answer::Number(self.sheet.count())),
+            [Some("close"), None, ..] => self.close(),
+            [Some("load"), Some(word), ..] => self.load(word),
+            [Some("shape"), Some(n), Some(k), None, ..] => self.shape(number(n)?, number(k)?),
+            [Some("take"), Some(s), Some(p), None, ..] => self.take(seat(s)?, number(p)?),
+            [Some("put"), Some(s), Some(p), None, ..] => self.put(seat(s)?, number(p)?),
+            [Some("let_go"), Some(s), Some(p), None, ..] => self.let_go(seat(s)?, number(p)?),
+            [Some(edit), Some(s), Some(p), Some(x), None] => {
+                self.change(edit, seat(s)?, number(p)?, number(x)?)
+            }
             _ => Err(Failure::NoCall),
         }
     }

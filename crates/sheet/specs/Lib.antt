@@ -1,4 +1,5 @@
 pub mod Sheets
+pub mod Fits
 pub mod Seats
 pub mod Slots
 pub mod Laws

@@ -1,4 +1,4 @@
-ghost use Rattle.std.specs.Prelude.{◌≡◌, ℕ, ◌^◌, ◌<◌, ◌≤◌, true, [], length, MatchOption, MatchResult};
+ghost use Rattle.std.specs.Prelude.{◌≡◌, ℕ, ◌^◌, ◌<◌, ◌≤◌, true, [], length, slice_index, MatchOption, MatchResult};
 ghost use Rattle.arena.specs.Refusals.{after, done, told};
 ghost use Rattle.arena.specs.Sets.{least};
 ghost use Rattle.strip.specs.Laws.{lawful_strip};
@@ -34,6 +34,15 @@ fn count_at(bytes: &[u8], at: usize) -> u16
     ensures { result ≡ length (row_from bytes.now at).moves }
 {
     number_at(bytes, at + 4)
+}
+
+/// The `j`-th move of the record at a place, which has more moves than that.
+fn move_at(bytes: &[u8], at: usize, j: u16) -> u16
+    requires near { at < 2 ^ 32 }
+    requires there { j < length (row_from bytes.now at).moves }
+    ensures { result ≡ slice_index (row_from bytes.now at).moves j }
+{
+    number_at(bytes, at + (6 + 2 * j as usize))
 }
 
 impl OpenedStrip<'_> {
@@ -81,7 +90,7 @@ impl Arena for OpenedStrip<'_> {
         if j >= count_at(self.bytes, at) {
             return None;
         }
-        Some(number_at(self.bytes, at + (6 + 2 * j as usize)))
+        Some(move_at(self.bytes, at, j))
     }
 }
 

@@ -20,5 +20,6 @@ returns c =
           ∙ ap (λ t. let_go_after t slip.seat slip.position) took.sheet
           ∙ ap (λ w. let_go_after (take_after s seat p) w.seat w.position) taken.2
           ∙ taken_and_let_go s seat p taken.0 taken.1;
+      fits = (took.fits.0, c.let_go.ensures.fits.1);
       draft = took.draft;
     }

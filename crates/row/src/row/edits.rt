@@ -1,14 +1,31 @@
-ghost use Rattle.std.specs.Prelude.{◌≡◌, ℕ, ◌<◌, [], ◌∷◌, ◌++◌, length, take};
+ghost use Rattle.std.specs.Prelude.{◌≡◌, ℕ, ◌+◌, ◌-◌, ◌^◌, ◌<◌, [], ◌∷◌, ◌++◌, if◌then◌else◌, length, take};
 ghost use Rattle.row.specs.Drafts.{assign_after, assign_answer, link_after, link_answer, mark_after, mark_answer, unlink_after, unlink_answer, unmark_after, unmark_answer};
 ghost use Rattle.row.specs.Refusals.{link_outcome, mark_outcome};
 ghost use Rattle.arena.specs.Owners.{owner_number};
 ghost use Rattle.row.specs.RowModel.{row_of};
+ghost use Rattle.row.specs.Rows.{mark_in};
 ghost use Rattle.std.specs.List.{insert as insert_at, remove};
 
 use crate::faults::{LinkFault, MarkFault};
 use crate::marks::has_mark;
 use crate::row::Row;
 use arena::Owner;
+
+/// The marks with the one for goal `g`.
+fn with_mark(marks: u8, g: u16) -> u8
+    requires { g < 8 }
+    ensures { result ≡ (if mark_in marks g then marks else marks + 2 ^ g) }
+{
+    marks | 1 << g
+}
+
+/// The marks without the one for goal `g`.
+fn without_mark(marks: u8, g: u16) -> u8
+    requires { g < 8 }
+    ensures { result ≡ (if mark_in marks g then marks - 2 ^ g else marks) }
+{
+    marks & !(1 << g)
+}
 
 /// Sets `q` in at a place: the elements from there on move up by one, and the last drops out.
 fn set_in(moves: &mut [u16], at: usize, q: u16)
@@ -29,6 +46,19 @@ fn strike_out(moves: &mut [u16], at: usize)
 }
 
 impl Row {
+    /// Strikes the move to `q` out, if there is one; answers whether there was.
+    fn strike_move(&mut self, q: u16) -> bool
+        ensures answer { result ≡ unlink_answer q (row_of self.old) }
+        ensures draft { row_of self.new ≡ unlink_after q (row_of self.old) }
+    {
+        let Ok(at) = self.moves().binary_search(&q) else {
+            return false;
+        };
+        strike_out(&mut self.moves, at);
+        self.count -= 1;
+        true
+    }
+
     /// Gives the draft an owner; answers whether that changed it.
     pub fn assign(&mut self, owner: Owner) -> bool
         ensures answer { result ≡ assign_answer (owner_number owner) (row_of self.old) }
@@ -49,7 +79,7 @@ impl Row {
             return Err(MarkFault::NoSuchGoal);
         }
         let there = has_mark(self.marks, g);
-        self.marks |= 1 << g;
+        self.marks = with_mark(self.marks, g);
         Ok(!there)
     }
 
@@ -63,7 +93,7 @@ impl Row {
             return Err(MarkFault::NoSuchGoal);
         }
         let there = has_mark(self.marks, g);
-        self.marks &= !(1 << g);
+        self.marks = without_mark(self.marks, g);
         Ok(there)
     }
 
@@ -89,11 +119,6 @@ impl Row {
         ensures answer { result ≡ unlink_answer q (row_of self.old) }
         ensures draft { row_of self.new ≡ unlink_after q (row_of self.old) }
     {
-        let Ok(at) = self.moves().binary_search(&q) else {
-            return false;
-        };
-        strike_out(&mut self.moves, at);
-        self.count -= 1;
-        true
+        self.strike_move(q)
     }
 }

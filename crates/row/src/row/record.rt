@@ -5,8 +5,8 @@ ghost use Rattle.row.specs.RowModel.{row_of};
 use crate::row::{RECORD_BYTES, Row};
 
 impl Row {
-    /// The record of the row: its bytes as a strip stores them.
-    pub fn record(&self) -> [u8; RECORD_BYTES]
+    /// The bytes of the record, one after another.
+    fn record_bytes(&self) -> [u8; RECORD_BYTES]
         ensures { result ≡ record_of (row_of self.now) }
     {
         let mut bytes = [0; RECORD_BYTES];
@@ -16,5 +16,12 @@ impl Row {
             bytes[6 + 2 * j..8 + 2 * j].copy_from_slice(&q.to_be_bytes());
         }
         bytes
+    }
+
+    /// The record of the row: its bytes as a strip stores them.
+    pub fn record(&self) -> [u8; RECORD_BYTES]
+        ensures { result ≡ record_of (row_of self.now) }
+    {
+        self.record_bytes()
     }
 }

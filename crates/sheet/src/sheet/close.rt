@@ -1,5 +1,6 @@
 ghost use Rattle.std.specs.Prelude.{◌≡◌, ℕ, None, MatchResult};
 ghost use Rattle.arena.specs.Refusals.{done, told};
+ghost use Rattle.sheet.specs.Fits.{Fits};
 ghost use Rattle.sheet.specs.Outcomes.{close_outcome};
 ghost use Rattle.sheet.specs.Sheets.{arena_of, close_answer, lowest_bare};
 ghost use Rattle.sheet.specs.Slots.{arena_drawn};
@@ -32,6 +33,7 @@ impl Sheet {
     pub fn close<'a>(&'a self, into: &mut ClosedSheet<'a>) -> Result<(), CloseFault>
         ensures answer { close_outcome result ≡ told (λ _. done) (close_answer self.now) }
         ensures fills { MatchResult result (λ _. arena_drawn into.new.goals into.new.slots.now ≡ arena_of self.now) (λ _. into.new ≡ into.old) }
+        ensures fits { Fits self.now }
     {
         if let Some(p) = self.lowest_out() {
             return Err(CloseFault::RowOut(p));

@@ -1,6 +1,7 @@
 ghost use Rattle.std.specs.Prelude.{◌≡◌, ◌≢◌, Some, ℕ, ◌^◌, ◌<◌, ◌≤◌, true, nat_lt, slice_index};
 ghost use Rattle.arena.specs.Sets.{all};
 ghost use Rattle.row.specs.RowModel.{row_of};
+ghost use Rattle.sheet.specs.Fits.{Fits};
 ghost use Rattle.sheet.specs.Seats.{seat_or_none};
 ghost use Rattle.sheet.specs.Sheets.{is_out, lent, lowest_out, new, out_to, row_on, stored};
 
@@ -13,14 +14,16 @@ use row::Row;
 impl Sheet {
     /// The number of positions.
     pub(crate) fn size(&self) -> u16
-        ensures { result ≡ self.now.size }
+        ensures number { result ≡ self.now.size }
+        ensures fits { Fits self.now }
     {
         self.slots.len() as u16
     }
 
     /// The lowest row that is out.
     pub(crate) fn lowest_out(&self) -> Option<u16>
-        ensures { result ≡ lowest_out self.now }
+        ensures lowest { result ≡ lowest_out self.now }
+        ensures fits { Fits self.now }
     {
         let p = first_out(self.slots.as_slice())?;
         Some(p as u16)
@@ -46,7 +49,8 @@ impl Sheet {
 
     /// Whether the row of the slip's position is out to its seat.
     pub(crate) fn is_out_to(&self, slip: &Slip) -> bool
-        ensures { result ≡ out_to self.now slip.now.seat slip.now.position }
+        ensures held { result ≡ out_to self.now slip.now.seat slip.now.position }
+        ensures fits { Fits self.now }
     {
         let p = slip.position();
         p < self.size() && self.slot(p).holder == Some(slip.seat())
@@ -64,7 +68,8 @@ impl Sheet {
     pub(crate) fn lend(&mut self, p: u16, holder: Option<u8>)
         requires inside { p < self.old.size }
         requires seated { holder ≢ Some 0 }
-        ensures { self.new ≡ lent self.old p (seat_or_none holder) }
+        ensures sheet { self.new ≡ lent self.old p (seat_or_none holder) }
+        ensures fits { Fits self.new }
     {
         self.slots[p as usize].holder = holder;
     }
@@ -74,7 +79,8 @@ impl Sheet {
         requires inside { p < self.old.size }
         requires moves { all (λ q. nat_lt q self.old.size) (row_of row).moves ≡ true }
         requires marks { (row_of row).marks < 2 ^ self.old.goals }
-        ensures { self.new ≡ stored self.old p (row_of row) }
+        ensures sheet { self.new ≡ stored self.old p (row_of row) }
+        ensures fits { Fits self.new }
     {
         self.slots[p as usize] = Slot { row, holder: None };
     }
@@ -83,7 +89,8 @@ impl Sheet {
     pub(crate) fn reshape(&mut self, n: u16, k: u16)
         requires positions { (0 < n) × (n ≤ 512) }
         requires goals { (0 < k) × (k ≤ 8) }
-        ensures { self.new ≡ new n k }
+        ensures sheet { self.new ≡ new n k }
+        ensures fits { Fits self.new }
     {
         fill_empty(&mut self.slots, n);
         self.goals = k;

@@ -1,6 +1,7 @@
 ghost use Rattle.std.specs.Prelude.{◌≡◌, ℕ, IfOk, IfErr};
 ghost use Rattle.arena.specs.Refusals.{told};
 ghost use Rattle.row.specs.RowModel.{row_of};
+ghost use Rattle.sheet.specs.Fits.{Fits};
 ghost use Rattle.sheet.specs.Outcomes.{let_go_outcome, put_outcome, shape_outcome, take_outcome, unspent};
 ghost use Rattle.sheet.specs.Sheets.{blank, count_answer, let_go_after, let_go_answer, put_after, put_answer, shape_after, shape_answer, take_after, take_answer, take_draft};
 ghost use Rattle.sheet.specs.Succession.{SheetsKeep};
@@ -27,6 +28,7 @@ impl Sheet {
     pub fn shape(&mut self, n: u16, k: u16) -> Result<(), ShapeFault>
         ensures answer { shape_outcome result ≡ shape_answer self.old n k }
         ensures sheet { self.new ≡ shape_after self.old n k }
+        ensures fits { Fits self.old × Fits self.new }
     {
         if let Some(p) = self.lowest_out() {
             return Err(ShapeFault::RowOut(p));
@@ -47,11 +49,13 @@ impl Sheet {
         ensures answer { take_outcome result ≡ told (λ _. unspent seat position) (take_answer self.old seat position) }
         ensures sheet { self.new ≡ take_after self.old seat position }
         ensures draft { row_of draft.new ≡ take_draft self.old seat position (row_of draft.old) }
+        ensures fits { Fits self.old × Fits self.new }
     {
+        let size = self.size();
         if !(1..=16).contains(&seat) {
             return Err(TakeFault::NoSuchSeat);
         }
-        if position >= self.size() {
+        if position >= size {
             return Err(TakeFault::NoSuchPosition);
         }
         if self.is_out(position) {
@@ -69,6 +73,7 @@ impl Sheet {
         ensures answer { put_outcome result ≡ put_answer self.old slip.seat slip.position (row_of draft.now) }
         ensures back { IfErr result (λ e. e.1 ≡ slip) }
         ensures sheet { self.new ≡ put_after self.old slip.seat slip.position (row_of draft.now) }
+        ensures fits { Fits self.old × Fits self.new }
     {
         if !self.is_out_to(&slip) {
             return Err((PutFault::NotOut, slip));
@@ -89,6 +94,7 @@ impl Sheet {
     pub fn let_go(&mut self, mut slip: Slip) -> Result<(), LetGoFault>
         ensures answer { let_go_outcome result ≡ let_go_answer self.old slip.seat slip.position }
         ensures sheet { self.new ≡ let_go_after self.old slip.seat slip.position }
+        ensures fits { Fits self.old × Fits self.new }
     {
         slip.spend();
         if !self.is_out_to(&slip) {
@@ -98,13 +104,23 @@ impl Sheet {
         Ok(())
     }
 
+    /// How many rows are out, with the law over successions of calls and with what always holds of the sheet.
+    fn number_out(&self) -> u16
+        ensures answer { result ≡ count_answer self.now }
+        ensures law { SheetsKeep }
+        ensures fits { Fits self.now }
+    {
+        count_out(self.slots.as_slice())
+    }
+
     /// How many rows are out. The law that stands beside the answer says what it is to be out: after any succession of
     /// takes, puts, let gos and counts on a new sheet, each row is the draft of its last accepted put, or empty, and the
     /// count is the number of rows taken and neither put nor let go since.
     pub fn count(&self) -> u16
         ensures answer { result ≡ count_answer self.now }
         ensures law { SheetsKeep }
+        ensures fits { Fits self.now }
     {
-        count_out(self.slots.as_slice())
+        self.number_out()
     }
 }

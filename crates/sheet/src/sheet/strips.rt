@@ -1,5 +1,6 @@
 ghost use Rattle.std.specs.Prelude.{◌≡◌, ℕ, ◌≤◌, ◌++◌, map, length, drop, None, OnOk};
 ghost use Rattle.arena.specs.Sets.{upto};
+ghost use Rattle.sheet.specs.Fits.{Fits};
 ghost use Rattle.sheet.specs.Outcomes.{load_outcome, write_outcome};
 ghost use Rattle.sheet.specs.Sheets.{ReadsBack, WritesBack, all_in, load_after, load_answer, strip_of, write_answer, write_bytes};
 ghost use Rattle.strip.specs.Strip.{fault, goals, row_read, size};
@@ -18,6 +19,7 @@ impl Sheet {
         requires { fault strip.now ≡ None }
         ensures sheet { self.new ≡ all_in (size strip.now) (goals strip.now) (map (row_read strip.now) (upto (size strip.now))) }
         ensures back { WritesBack self.new strip.now }
+        ensures fits { Fits self.new }
     {
         fill_read(&mut self.slots, strip, number_at(strip, 2));
         self.goals = number_at(strip, 4);
@@ -29,6 +31,7 @@ impl Sheet {
         ensures answer { load_outcome result ≡ load_answer self.old strip.now }
         ensures sheet { self.new ≡ load_after self.old strip.now }
         ensures back { OnOk result (WritesBack self.new strip.now) }
+        ensures fits { Fits self.old × Fits self.new }
     {
         if let Some(p) = self.lowest_out() {
             return Err(LoadFault::RowOut(p));
@@ -53,6 +56,7 @@ impl Sheet {
         ensures answer { write_outcome result ≡ write_answer self.now bytes.old }
         ensures bytes { bytes.new ≡ write_bytes self.now bytes.old }
         ensures back { OnOk result (ReadsBack self.now bytes.new) }
+        ensures fits { Fits self.now }
     {
         if bytes.len() < strip_bytes(self.size()) {
             return Err(WriteFault::Short);

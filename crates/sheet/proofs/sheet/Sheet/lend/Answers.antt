@@ -5,6 +5,7 @@ use Rattle.sheet.specs.declared.slot.Slot.{Slot}
 use Rattle.sheet.specs.Seats.{seat_or_none}
 use Rattle.sheet.specs.Sheets.{Sheet, lent}
 use Rattle.sheet.specs.Slots.{Below, Marked}
+use Rattle.sheet.proofs.Fitting.{fits}
 use Rattle.sheet.proofs.sheet.Sheet.lend.Goals as goal
 
 -- an element written over by one that agrees with it under f
@@ -29,8 +30,8 @@ invariant_of-self c =
       marked = subst (Marked (vec_len s.slots) s.goals) (sym rows) held.marked;
     }
 
-pub returns : goal.returns
-returns c =
+pub returns-clause-sheet : goal.returns-clause-sheet
+returns-clause-sheet c =
     let s = c.self.inside in
     let p = c.args.p in
     let size = sym (ap (λ (v : Sheet). v.size) c.self.view_is) in
@@ -38,3 +39,6 @@ returns c =
     let rows = same_under (λ (h : Slot). row_of h.row) s.slots.items p _ c.index_mut.result.now inside c.index_mut.ensures.value refl in
     let out = map-set (λ (h : Slot). seat_or_none h.holder) s.slots.items p _ in
     (λ i. record { size = vec_len s.slots; goals = s.goals; rows = rows i; out = out i }) ∙ ap (λ v. lent v p (seat_or_none c.args.holder)) c.self.view_is
+
+pub returns-clause-fits : goal.returns-clause-fits
+returns-clause-fits c = fits _ (invariant_of-self c)

@@ -7,6 +7,7 @@ use Rattle.sheet.specs.Sheets.{Sheet, all_in, strip_of}
 use Rattle.sheet.specs.SheetModel.{sheet_of}
 use Rattle.sheet.specs.Slots.{Below, Marked, rows_of}
 use Rattle.sheet.proofs.Trips.{read, read_below, read_marked, read_writes}
+use Rattle.sheet.proofs.Fitting.{fits}
 use Rattle.sheet.proofs.sheet.Sheet.replace.Goals as goal
 
 pub invariant_of-self : goal.invariant_of-self
@@ -35,3 +36,6 @@ returns-clause-back c =
     let bytes : Bytes bs = λ i l. omega (arith, c.type_inv.strip i) in
     let same : ◌≡◌ {A = Sheet} (sheet_of (record { goals = c.number_at-self-inside.result; slots = c.fill_read.new.slots })) (all_in (size bs) (goals bs) (read bs bytes c.requires)) = search rules in
     ap strip_of same ∙ read_writes bs bytes c.requires
+
+pub returns-clause-fits : goal.returns-clause-fits
+returns-clause-fits c = fits _ (invariant_of-self c)

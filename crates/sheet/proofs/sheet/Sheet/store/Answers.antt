@@ -9,6 +9,7 @@ use Rattle.sheet.specs.Seats.{seat_or_none}
 use Rattle.sheet.specs.Sheets.{Sheet, stored}
 use Rattle.sheet.specs.Slots.{Below, Marked, rows_of}
 use Rattle.sheet.proofs.Keeping.{stored_below, stored_marked}
+use Rattle.sheet.proofs.Fitting.{fits}
 use Rattle.sheet.proofs.sheet.Sheet.store.Goals as goal
 
 pub invariant_of-self : goal.invariant_of-self
@@ -35,10 +36,13 @@ invariant_of-self c =
       marked = subst (Marked n s.goals) rows (stored_marked n s.goals drawn p r inside marks held.marked);
     }
 
-pub returns : goal.returns
-returns c =
+pub returns-clause-sheet : goal.returns-clause-sheet
+returns-clause-sheet c =
     let s = c.self.inside in
     let p = c.args.p in
     let rows = map-set (λ (h : Slot). row_of h.row) s.slots.items p _ in
     let out = map-set (λ (h : Slot). seat_or_none h.holder) s.slots.items p _ in
     (λ i. record { size = vec_len s.slots; goals = s.goals; rows = rows i; out = out i }) ∙ ap (λ v. stored v p (row_of c.args.row)) c.self.view_is
+
+pub returns-clause-fits : goal.returns-clause-fits
+returns-clause-fits c = fits _ (invariant_of-self c)

@@ -6,7 +6,7 @@ use Rattle.sheet_faults.specs.Refusals.{close_refusal}
 use Rattle.planner.specs.Solving.{solving_outcome}
 use Rattle.planner.proofs.Closed.{closed}
 use Rattle.planner.proofs.Answered.{solved, close_stays}
-use Rattle.planner.proofs.sheets.solve_sheet.Goals as goal
+use Rattle.planner.proofs.sheets.solve_closed.Goals as goal
 
 pub returns-in_err-close : goal.returns-in_err-close
 returns-in_err-close c =
@@ -16,6 +16,7 @@ returns-in_err-close c =
       answer = ap (solving_outcome close_refusal) p.1 ∙ ap (λ x. solving_outcome close_refusal (Err x)) p.2 ∙ r.answer;
       bytes = r.bytes_are;
       numbers = r.work_is;
+      fits = c.in_err-close.ensures.fits;
     }
 
 pub returns-in_err-solve : goal.returns-in_err-solve
@@ -27,6 +28,7 @@ returns-in_err-solve c =
       answer = ap (solving_outcome close_refusal) p.1 ∙ ap (λ x. solving_outcome close_refusal (Err x)) p.2 ∙ c.in_err-solve.ensures.answer ∙ r.answer;
       bytes = c.solve.ensures.bytes ∙ r.bytes_are;
       numbers = c.solve.ensures.numbers ∙ r.work_is;
+      fits = c.in_ok-close.ensures.fits;
     }
 
 pub returns : goal.returns
@@ -37,4 +39,5 @@ returns c =
       answer = c.in_ok-solve.ensures.answer ∙ r.answer;
       bytes = c.solve.ensures.bytes ∙ r.bytes_are;
       numbers = c.solve.ensures.numbers ∙ r.work_is;
+      fits = c.in_ok-close.ensures.fits;
     }

@@ -1,12 +1,14 @@
-use Rattle.std.proofs.Common.{length, sym, ap, ◌∙◌}
+use Rattle.std.proofs.Common.{length, sym, ap, ◌∙◌, subst}
 use Rattle.std.specs.List.{count_by}
 use Rattle.arena.specs.Sets.{count, upto}
+use Rattle.sheet.specs.Fits.{Fits}
 use Rattle.sheet.specs.SheetModel.{sheet_of}
 use Rattle.sheet.specs.Sheets.{is_out, count_answer}
 use Rattle.sheet.specs.Slots.{is_lent}
+use Rattle.sheet.proofs.Fitting.{fits}
 use Rattle.sheet.proofs.Seeking.{number_lent}
 use Rattle.sheet.proofs.Successions.{sheets_keep}
-use Rattle.sheet.proofs.sheet.Sheet.count.Goals as goal
+use Rattle.sheet.proofs.sheet.Sheet.number_out.Goals as goal
 
 pub returns-clause-answer : goal.returns-clause-answer
 returns-clause-answer c =
@@ -19,3 +21,6 @@ returns-clause-answer c =
 
 pub returns-clause-law : goal.returns-clause-law
 returns-clause-law c = sheets_keep
+
+pub returns-clause-fits : goal.returns-clause-fits
+returns-clause-fits c = subst Fits c.self.view_is (fits c.self.inside c.self.invariant)

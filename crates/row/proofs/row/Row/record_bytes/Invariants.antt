@@ -1,7 +1,7 @@
 use Rattle.std.proofs.Common.{◌≡◌, ◌+◌, ◌*◌, ◌∷◌, length, take}
 use Rattle.arena.specs.Owners.{owner_number}
 use Rattle.row.specs.Records.{pairs}
-use Rattle.row.proofs.row.Row.record.Given as goal
+use Rattle.row.proofs.row.Row.record_bytes.Given as goal
 
 abbrev pub invariant-loop-j : goal.invariant-loop-j
 invariant-loop-j l = record {

@@ -5,7 +5,7 @@ use Rattle.strip.specs.Strip.{drawn, open_answer}
 use Rattle.planner.specs.Solving.{solving_outcome}
 use Rattle.planner.proofs.Opened.{opened}
 use Rattle.planner.proofs.Answered.{solved, open_stays}
-use Rattle.planner.proofs.strips.solve_strip.Goals as goal
+use Rattle.planner.proofs.strips.solve_opened.Goals as goal
 
 pub returns-in_err-open : goal.returns-in_err-open
 returns-in_err-open c =

@@ -3,7 +3,7 @@ use Rattle.std.proofs.lemmas.List.{take_all}
 use Rattle.std.proofs.lemmas.Slice.{take-put_mid, overwrites}
 use Rattle.arena.specs.Bytes.{two}
 use Rattle.row.proofs.RecordBytes.{pairs_more, record_is}
-use Rattle.row.proofs.row.Row.record.Goals as goal
+use Rattle.row.proofs.row.Row.record_bytes.Goals as goal
 
 pub loop-j-preserved : goal.loop-j-preserved
 loop-j-preserved c =

@@ -1,7 +1,7 @@
 use Rattle.std.proofs.Common.{sym}
 use Rattle.arena.specs.Owners.{owner_number}
 use Rattle.row.proofs.Moves.{listed, absent, there, gap, struck, strike_none}
-use Rattle.row.proofs.row.Row.unlink.Goals as goal
+use Rattle.row.proofs.row.Row.strike_move.Goals as goal
 
 pub returns-in_default-clause-answer : goal.returns-in_default-clause-answer
 returns-in_default-clause-answer c =
