@@ -1,4 +1,4 @@
--- What always holds of a sheet, for whoever is handed one. Read after the sheet's calls.
+-- What always holds of a sheet; each call on one says so. Read after the sheet's calls.
 use Rattle.std.specs.Prelude.{◌≡◌, ℕ, ◌<◌, ◌≤◌, length}
 use Rattle.strip.specs.RoundTrip.{Good}
 use Rattle.sheet.specs.Sheets.{Sheet, row_on}

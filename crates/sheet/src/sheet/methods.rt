@@ -16,7 +16,8 @@ use std::alloc::{AllocError, Global};
 impl Sheet {
     /// A blank sheet: one shaped to one position and one goal. Only here memory is asked for, and may be wanting.
     pub fn new(heap: Global) -> Result<Sheet, AllocError>
-        ensures { IfOk result (λ s. s ≡ blank) }
+        ensures sheet { IfOk result (λ s. s ≡ blank) }
+        ensures fits { IfOk result (λ s. Fits s) }
     {
         let mut slots = Vec::with_capacity(heap, ROWS)?;
         fill_empty(&mut slots, 1);
