@@ -53,8 +53,8 @@ impl Record<'_> {
         let here = self.offset + (6 + 2 * j);
         let count = number_at(self.bytes, self.offset + 4);
         let q = number_at(self.bytes, here);
-        let before = number_at(self.bytes, here - 2);
         if j < count as usize {
+            let before = number_at(self.bytes, here - 2);
             (q as usize) < self.positions && (j == 0 || before < q)
         } else {
             q == 0
